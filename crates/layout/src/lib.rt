@@ -1,0 +1,82 @@
+// The parts of an accepted table, read in place (01, "The rule table"): "The words of each list are handed on as the part of the table that
+// holds them, with no copy made." Meaning: `specs/Layout.antt`. Crate `table` finds the places; the functions here rely on them.
+ghost use mathlib.Core.Path.{_≡_};
+ghost use Prim.Native.Nat.{_+_, _-_, _*_, _≤_, _<_};
+ghost use lib.ListN.{length, getD};
+ghost use lib.IntN.{natAbs, pos};
+ghost use Rattle.layout.specs.Layout.{natAt, partAt, pastAt, functionBy, comparisonBy, pairsAt, pastAggregate};
+use meaning::Comparison;
+use meaning::Function;
+
+// Where the parts of an accepted table stand: the numbers of atoms, aggregates and rules, the index of the first rule, and the index at
+// which each aggregate begins.
+pub struct Table {
+    pub atoms: usize,
+    pub aggregates: usize,
+    pub rules: usize,
+    pub first: usize,
+    pub starts: [u16; 64],
+}
+
+// The list whose count stands at `at`, as a part of the table.
+pub fn part(t: &[i32], at: usize) -> &[i32]
+    requires { ⌜ pastAt (now t) at ≤ length (now t) ⌝ }
+    ensures { λ r. ⌜ now r ≡ partAt (now (t .entry)) at ⌝ }
+{
+    let a = at + 1;
+    let n = words::atom(t, at);
+    let e = a + n;
+    &t[a..e]
+}
+
+// The index past that list.
+pub fn past(t: &[i32], at: usize) -> usize
+    requires { ⌜ pastAt (now t) at ≤ length (now t) ⌝ }
+    ensures { λ r. ⌜ r ≡ pastAt (now (t .entry)) at ⌝ }
+{
+    let n = words::atom(t, at);
+    at + 1 + n
+}
+
+// The pairs of value and atom of the aggregate that begins at `at`, as a part of the table.
+pub fn pairs(t: &[i32], at: usize) -> &[i32]
+    requires { ⌜ pastAggregate (now t) at ≤ length (now t) ⌝ }
+    ensures { λ r. ⌜ now r ≡ pairsAt (now (t .entry)) at ⌝ }
+{
+    let a = at + 4;
+    let place = at + 3;
+    let n = words::atom(t, place);
+    let e = a + 2 * n;
+    &t[a..e]
+}
+
+// Its function.
+pub fn function(t: &[i32], at: usize) -> Function
+    requires { ⌜ at < length (now t) ⌝ }
+    ensures { λ r. ⌜ r ≡ functionBy (natAt (now (t .entry)) at) ⌝ }
+{
+    let n = words::atom(t, at);
+    if n == 0 {
+        return Function::Count;
+    }
+    if n == 1 {
+        return Function::Sum;
+    }
+    if n == 2 {
+        return Function::Min;
+    }
+    Function::Max
+}
+
+// Its comparison.
+pub fn comparison(t: &[i32], at: usize) -> Comparison
+    requires { ⌜ at + 1 < length (now t) ⌝ }
+    ensures { λ r. ⌜ r ≡ comparisonBy (natAt (now (t .entry)) (at + 1)) ⌝ }
+{
+    let place = at + 1;
+    let n = words::atom(t, place);
+    if n == 0 {
+        return Comparison::Less;
+    }
+    Comparison::Greater
+}

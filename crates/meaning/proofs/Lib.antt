@@ -1,0 +1,13 @@
+-- What is proved of the meaning of programs. Assumes nothing.
+pub mod Tools
+pub mod Cond
+pub mod Meaning
+pub mod Support
+pub mod Bounds
+pub mod Rank
+pub mod Least
+pub mod Closure
+pub mod Unfounded
+pub mod Theorem
+pub mod Cycles
+pub mod Tested
