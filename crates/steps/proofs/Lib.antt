@@ -1,0 +1,5 @@
+-- What is proved of the steps. Assumes nothing.
+pub mod Lits
+pub mod Lift
+pub mod Indep
+pub mod Ending
