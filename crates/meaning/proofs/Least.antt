@@ -11,6 +11,7 @@ use Rattle.meaning.specs.Aggregates.{Atoms, values, compared, compares, 
 use Rattle.meaning.specs.Answers.{literal, body, model, reduct, AnswerSet, _⊆_}
 use Rattle.meaning.specs.Dependency.{AggregateCycle, Free}
 use Rattle.meaning.specs.Foundedness.{Added, add, Founded}
+use Rattle.meaning.proofs.Proper.{answer-i}
 use Rattle.meaning.proofs.Tools.{both, contra, keep-i}
 use Rattle.meaning.proofs.Meaning.{BodyTrue, body-e, body-i, model-e, supports-body, supports-only}
 use Rattle.meaning.proofs.Rank.{rank, rank-arc, rank-added, arc-i}
@@ -50,4 +51,4 @@ module _ (n : ℕ) (P : Program) (low : Below n P) (free : Free AggregateCycle P
 
 pub founded→answer : (n : ℕ) (P : Program) → Below n P → Free AggregateCycle P → (X : Atoms) → Is (model P X) → Founded P X → AnswerSet P X
 founded→answer n P low free X M F =
-    record { isModel = M; least = λ Y sub N p t. outer n P low free X F Y sub N (suc (rank n P p)) p (le-refl _) t }
+    answer-i P X M (λ Y sub N p t. outer n P low free X F Y sub N (suc (rank n P p)) p (le-refl _) t)

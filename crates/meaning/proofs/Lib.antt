@@ -2,6 +2,8 @@
 pub mod Tools
 pub mod Cond
 pub mod Meaning
+pub mod Proper
+pub mod Order
 pub mod Support
 pub mod Bounds
 pub mod Rank

@@ -11,6 +11,7 @@ use Rattle.meaning.specs.Aggregates.{Atoms}
 use Rattle.meaning.specs.Program.{Rule, Program}
 use Rattle.meaning.specs.Answers.{body, AnswerSet}
 use Rattle.meaning.specs.Foundedness.{supports}
+use Rattle.meaning.proofs.Proper.{answer-least}
 use Rattle.meaning.proofs.Tools.{clash, cases, not-is, is-not, and-i, and-l, and-r, eq, eq-i, any-cases}
 use Rattle.meaning.proofs.Meaning.{HeadTrue, Only, model-e, reduct-i, supports-i}
 
@@ -47,7 +48,7 @@ supported P X A p t = at (any-cases (λ r. supports X r p) P)
 
     at : ((r : Rule) × (r ∈ P) × Is (supports X r p)) ⊎ ((r : Rule) → r ∈ P → supports X r p ≡ false) → (r : Rule) × (r ∈ P) × Is (supports X r p)
     at (inl s) = s
-    at (inr none) = absurd (clash (eq-i {m = p} refl) (without-out X (eqb p) p (A .least Y (λ q. without-in X (eqb p) q) (reduct-i P X Y left) p t)))
+    at (inr none) = absurd (clash (eq-i {m = p} refl) (without-out X (eqb p) p (answer-least P X A Y (λ q. without-in X (eqb p) q) (reduct-i P X Y left) p t)))
       where
         left : (r : Rule) → r ∈ P → Is (body X r) → Is (body Y r) → HeadTrue Y r
         left r m b c = pick (any-cases Y (r .head))

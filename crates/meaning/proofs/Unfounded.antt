@@ -13,6 +13,7 @@ use Rattle.meaning.specs.Answers.{body, AnswerSet}
 use Rattle.meaning.specs.Dependency.{arc, Chain, stay, go, HeadCycle, Free}
 use Rattle.meaning.specs.Foundedness.{Founded}
 use Rattle.meaning.specs.Cycles.{via}
+use Rattle.meaning.proofs.Proper.{answer-least}
 use Rattle.meaning.proofs.Tools.{clash, cases, not-false, not-is, is-not, and-i, and-l, and-r, eq, neq, any-cases, number, number-lt, find, chain-join, via-chain, chain-via}
 use Rattle.meaning.proofs.Meaning.{HeadTrue, Only, body-e, model-e, reduct-i, supports-i, supports-only}
 use Rattle.meaning.proofs.Rank.{arc-i, arc-low}
@@ -59,7 +60,7 @@ module _ (n : ℕ) (P : Program) (low : Below n P) (free : Free HeadCycle P) (X 
   -- a strongly connected part of U that no arc leaves cannot be
   part : (p : ℕ) → Is (U p) → ((q : ℕ) → Is (to p q) → Is (to q p)) → ⊥
   unfolding U inner
-  part p u back = clash (self p) (without-out X (to p) p (A .least Z (λ q. without-in X (to p) q) (reduct-i P X Z left) p (without-in X F p u)))
+  part p u back = clash (self p) (without-out X (to p) p (answer-least P X A Z (λ q. without-in X (to p) q) (reduct-i P X Z left) p (without-in X F p u)))
     where
       Z : Atoms
       Z = without X (to p)

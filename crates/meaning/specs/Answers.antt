@@ -34,10 +34,15 @@ infix 40 _⊆_
 abbrev pub _⊆_ : Atoms → Atoms → Type 0
 Y ⊆ X = (p : ℕ) → Is (Y p) → Is (X p)
 
--- "no proper subset is a model of that reduct", put positively: a subset that is one is the whole. `proofs/Proper.antt` shows that this is 01's wording
+-- a proper subset: a subset that lacks an atom
+infix 40 _⊂_
+abbrev pub _⊂_ : Atoms → Atoms → Type 0
+Y ⊂ X = (Y ⊆ X) × ((p : ℕ) × Is (X p) × (Y p ≡ false))
+
+-- "aggregates being evaluated afresh in the subset": `model .. Y` evaluates them in Y
 pub record AnswerSet (P : Program) (X : Atoms) : Type 0 where
   pub isModel : Is (model P X)
-  pub least : (Y : Atoms) → Y ⊆ X → Is (model (reduct P X) Y) → X ⊆ Y
+  pub minimal : (Y : Atoms) → Y ⊂ X → model (reduct P X) Y ≡ false
 
 -- ---- the order
 

@@ -22,12 +22,13 @@ use Rattle.meaning.specs.Program.{Program, In, AtomsIn}
 use Rattle.meaning.specs.Answers.{AnswerSet}
 use Rattle.meaning.specs.Dependency.{HeadCycle, AggregateCycle, Free}
 use Rattle.search.specs.Search.{Mode, jump, plain, Result, answer, noAnswer, limit, Branch, Outcome, solve}
-use Rattle.search.specs.Laws.{First, Dead, Alike, Laws}
+use Rattle.search.specs.Laws.{Dead, Alike, Laws}
 use Rattle.meaning.specs.Cycles.{accepted}
 use Rattle.search.specs.Base.{PinsIn, Agreeing, pinned, base}
-use Rattle.meaning.proofs.Tools.{contra}
+use Rattle.meaning.specs.Answers.{First}
+use Rattle.meaning.proofs.Order.{first-unique}
 use Rattle.meaning.proofs.Cond.{ltCase}
-use Rattle.search.proofs.Joined.{joined, answer-range}
+use Rattle.search.proofs.Joined.{joined}
 use Rattle.search.proofs.Skips
 use Rattle.meaning.proofs.Cycles.{accepted-e}
 use Rattle.search.proofs.Theorems
@@ -38,20 +39,6 @@ no-pin e = let z : _≡_ {A = ℕ} 0 1 = cc in omega arith
 module _ (n : ℕ) (P : Program) (inside : AtomsIn n P) (noHead : Free HeadCycle P) (noAgg : Free AggregateCycle P) where
   pub laws : Laws (AnswerSet P) (base P n)
   laws = joined n P inside noHead noAgg (λ p. none) (λ p v e. absurd (no-pin e)) (AnswerSet P) (λ X a. a) (λ X a p v e. absurd (no-pin e)) (λ X a f. a)
-
-  -- the first answer set is one
-  pub first-unique : (X Z : Atoms) → AnswerSet P X → First n (AnswerSet P) X → AnswerSet P Z → First n (AnswerSet P) Z → X ≡ Z
-  first-unique X Z a f b g = fun-ext λ p. at p (ltCase 0 p) (ltCase n p)
-    where
-      out : (p : ℕ) → (In n p → ⊥) → X p ≡ Z p
-      out p k =
-          contra (X p) {b = false} (λ h. absurd (k (answer-range n P inside X a p h))) refl
-          ∙ sym (contra (Z p) {b = false} (λ h. absurd (k (answer-range n P inside Z b p h))) refl)
-
-      at : (p : ℕ) → (0 < p) ⊎ (p ≤ 0) → (n < p) ⊎ (p ≤ n) → X p ≡ Z p
-      at p (inl y) (inr z) = Theorems.first-unique n (AnswerSet P) X Z a f b g n (omega arith) p y z
-      at p (inl y) (inl z) = out p (λ k. omega (arith, k .1))
-      at p (inr y) z = out p (λ k. omega (arith, k .0))
 
   module _ (lim : ℕ) where
     pub search-ends : (mode : Mode) → (o : Outcome) × (solve (base P n) mode lim ≡ some o)
@@ -68,7 +55,7 @@ module _ (n : ℕ) (P : Program) (inside : AtomsIn n P) (noHead : Free HeadCycle
       first-is-found Z a f k = at (o .result) refl
         where
           at : (r : Result) → o .result ≡ r → o .result ≡ answer Z
-          at (answer X) i = let t = answer-is-first X i in i ∙ ap answer (first-unique X Z (t .0) (t .1) a f)
+          at (answer X) i = let t = answer-is-first X i in i ∙ ap answer (first-unique n (AnswerSet P) X Z (t .0) (t .1) a f)
           at noAnswer i = absurd (none-means-none i Z a)
           at limit i = absurd (k i)
 

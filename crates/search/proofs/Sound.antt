@@ -14,7 +14,7 @@ use Rattle.levels.specs.Levels.{Levels, highest, upTo}
 use Rattle.interpretation.specs.State.{Cell, undefined, defined, Interpretation, lowest, truthOf, trueAtoms, withCells, jumped, opened, Defined, AllDefined}
 use Rattle.steps.specs.Steps.{Verdict, settled, conflict, Propagated}
 use Rattle.search.specs.Search.{Problem, Tested, passed, failed, exhausted, spend, Mode, Result, answer, noAnswer, limit, Branch, State, Outcome, Next, go, end, target, branches, goBack, ended, choosing, tested, choose, settle, propagated, turn, cont, run, start, solve, jumpedReason, openedReason}
-use Rattle.search.specs.Laws.{First, Dead, Agree, Within, Forces, Excludes, NoAnswer, Inv, Laws}
+use Rattle.search.specs.Laws.{Leads, Dead, Agree, Within, Forces, Excludes, NoAnswer, Inv, Laws}
 use Rattle.meaning.specs.Aggregates.{Atoms}
 use Rattle.meaning.proofs.Tools.{clash, contra}
 use Rattle.search.proofs.Invariant.{inv-start, inv-propagate, inv-open, inv-jump}
@@ -61,7 +61,7 @@ module _ (AS : (ℕ → Bool) → Type 0) where
         at p (inl y) (inr z) = whole Z a f p y z (d p y z)
         at p (inr y) z = out p (λ h. omega (arith, h .0))
 
-    first : AllDefined (P .atoms) (i .cell) → First (P .atoms) AS (trueAtoms (P .atoms) (i .cell))
+    first : AllDefined (P .atoms) (i .cell) → Leads (P .atoms) AS (trueAtoms (P .atoms) (i .cell))
     first d Z a p lo hi s n = at (first-off Z (i .choice) (i .level))
       where
         split : (j : ℕ) → 1 ≤ j → j ≤ i .level → Z (i .choice j) ≡ false → ((l : ℕ) → 1 ≤ l → l < j → Z (i .choice l) ≡ true)
@@ -89,7 +89,7 @@ module _ (AS : (ℕ → Bool) → Type 0) where
 
   module _ (P : Problem) (lim : ℕ) where
     unfoldable pub ResultOK : ℕ → Result → Type 0
-    ResultOK n (answer X) = AS X × First (P .atoms) AS X
+    ResultOK n (answer X) = AS X × Leads (P .atoms) AS X
     ResultOK n noAnswer = (X : ℕ → Bool) → AS X → ⊥
     ResultOK n limit = n ≡ lim
 

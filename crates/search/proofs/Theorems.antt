@@ -1,10 +1,10 @@
 -- The theorems of the search, for answer sets AS and a problem P that meet the laws. Both modes where nothing else is said.
 --   answer-is-first (T1)   none-means-none (T2)   search-ends (T3)   skipped-hold-none (T4)   jump≤plain (T5)
 -- Assumes nothing.
-use Prim.Native.Nat.{ℕ, zero, suc, _≤_, _<_}
-use mathlib.Core.Path.{_≡_, refl, sym, _∙_, subst}
-use mathlib.Core.Logic.{_⊎_, inl, inr}
-use mathlib.Core.Bool.{Bool, true, false, Bool-discrete}
+use Prim.Native.Nat.{ℕ, _≤_, _<_}
+use mathlib.Core.Path.{_≡_, refl, sym, _∙_, subst, fun-ext}
+use mathlib.Core.Logic.{_≢_, _⊎_, inl, inr}
+use mathlib.Core.Bool.{Bool, true, false}
 use mathlib.Core.Option.{Option, none, some}
 use mathlib.Core.List.{List, [], _∷_, List·Memᴰ, List·Memᴰ·not-nil, List·Memᴰ·cases-cons}
 use native.Mathlib.Omega.{arith}
@@ -12,7 +12,10 @@ use lib.ListN.{length}
 use Rattle.meaning.specs.Aggregates.{Atoms}
 use Rattle.meaning.specs.Lists.{_∈_}
 use Rattle.search.specs.Search.{Problem, Mode, jump, plain, Result, answer, noAnswer, limit, Branch, Outcome, solve}
-use Rattle.search.specs.Laws.{First, Dead, Alike, Laws}
+use Rattle.search.specs.Laws.{Leads, Dead, Alike, Laws}
+use Rattle.meaning.specs.Answers.{Before, First}
+use Rattle.meaning.proofs.Tools.{clash, contra}
+use Rattle.meaning.proofs.Order.{Same, before-total}
 use Rattle.meaning.proofs.Cond.{ltCase}
 use Rattle.search.proofs.Parts.{AllDead}
 use Rattle.search.proofs.Sound.{ResultOK, Good, solve-good}
@@ -27,22 +30,33 @@ dead-of AS b (x ∷ s) d m = at (List·Memᴰ·cases-cons m) (λ k. dead-of AS b
     at (inl e) f = rw e (d .0)
     at (inr k) f = f k
 
--- the order's claim determines the answer
-pub first-unique : (n : ℕ) (AS : Atoms → Type 0) (X Z : Atoms) → AS X → First n AS X → AS Z → First n AS Z → (m : ℕ) → m ≤ n → (p : ℕ) → 1 ≤ p → p ≤ m → X p ≡ Z p
-first-unique n AS X Z a f b g zero h p y k = absurd (omega arith)
-first-unique n AS X Z a f b g (suc m) h p y k = at (first-unique n AS X Z a f b g m (omega arith)) (ltCase p (suc m)) (Bool-discrete (X p) (Z p))
+-- what leads comes first
+leads-first : (n : ℕ) (AS : Atoms → Type 0) (X : Atoms) → ((Z : Atoms) → AS Z → (p : ℕ) → Z p ≡ true → (1 ≤ p) × (p ≤ n)) → AS X → Leads n AS X → First n AS X
+leads-first n AS X range a lead Z b = at (before-total n X Z)
   where
-    at : ((q : ℕ) → 1 ≤ q → q ≤ m → X q ≡ Z q) → (p < suc m) ⊎ (suc m ≤ p) → Dec (X p ≡ Z p) → X p ≡ Z p
-    at s z (yes e) = e
-    at s (inl z) (no d) = s p y (omega arith)
-    at s (inr z) (no d) = f Z b p y (omega arith) (λ q x l. s q x (omega arith)) d ∙ sym (g X a p y (omega arith) (λ q x l. sym (s q x (omega arith))) (λ e. d (sym e)))
+    outside : (p : ℕ) → ((1 ≤ p) × (p ≤ n) → ⊥) → X p ≡ Z p
+    outside p k = contra (X p) {b = false} (λ h. absurd (k (range X a p h))) refl ∙ sym (contra (Z p) {b = false} (λ h. absurd (k (range Z b p h))) refl)
+
+    equal : Same n X Z → (p : ℕ) → (0 < p) ⊎ (p ≤ 0) → (n < p) ⊎ (p ≤ n) → X p ≡ Z p
+    equal s p (inl y) (inr z) = s p y z
+    equal s p (inl y) (inl z) = outside p (λ k. omega (arith, k .1))
+    equal s p (inr y) z = outside p (λ k. omega (arith, k .0))
+
+    at : Same n X Z ⊎ (Before n X Z ⊎ Before n Z X) → (X ≡ Z) ⊎ Before n X Z
+    at (inl s) = inl (fun-ext λ p. equal s p (ltCase 0 p) (ltCase n p))
+    at (inr (inl c)) = inr c
+    at (inr (inr c)) =
+        let differ : X (c .at) ≢ Z (c .at) = λ e. clash (e ∙ c .here) (c .there) in
+        absurd (clash (lead Z b (c .at) (c .inside .0) (c .inside .1) (λ q y l. sym (c .same q y l)) differ) (c .there))
 
 module _ (AS : Atoms → Type 0) (P : Problem) (L : Laws AS P) (lim : ℕ) where
   module _ (mode : Mode) (o : Outcome) (e : solve P mode lim ≡ some o) where
     -- T1: an answer is an answer set, and the first of them
     pub answer-is-first : (X : Atoms) → o .result ≡ answer X → AS X × First (P .atoms) AS X
     unfolding ResultOK
-    answer-is-first X f = subst (ResultOK AS P lim (o .choices)) f ((solve-good AS P lim L mode o e) .found)
+    answer-is-first X f =
+        let t = subst (ResultOK AS P lim (o .choices)) f ((solve-good AS P lim L mode o e) .found) in
+        (t .0, leads-first (P .atoms) AS X (L .range) (t .0) (t .1))
 
     -- T2: none is said only where there is no answer set
     pub none-means-none : o .result ≡ noAnswer → (X : Atoms) → AS X → ⊥

@@ -1,5 +1,5 @@
 -- What the theorems of the search say, and what they take of the propagation, the final test and the answer sets. Definitions only.
---   First, Dead, Alike   the words of the theorems
+--   Leads, Dead, Alike   the words of the theorems
 --   Inv                  the invariant of the search
 --   Laws AS P            what is needed of P's parts. `Base` proves it of the steps a to e and the foundedness test
 -- Assumes nothing.
@@ -17,9 +17,9 @@ use Rattle.search.specs.Search.{Problem, Tested, passed, failed, Branch,
 
 -- ---- the words of the theorems
 
--- X comes first in 01's order: at the lowest atom at which another answer set differs from it, X has the atom true
-abbrev pub First : ℕ → (Atoms → Type 0) → Atoms → Type 0
-First n AS X = (Z : Atoms) → AS Z → (p : ℕ) → 1 ≤ p → p ≤ n → ((q : ℕ) → 1 ≤ q → q < p → X q ≡ Z q) → X p ≢ Z p → X p ≡ true
+-- at the lowest atom at which another of AS differs from X, X has the atom true: `First` of crate `meaning`, in the form that the search shows
+abbrev pub Leads : ℕ → (Atoms → Type 0) → Atoms → Type 0
+Leads n AS X = (Z : Atoms) → AS Z → (p : ℕ) → 1 ≤ p → p ≤ n → ((q : ℕ) → 1 ≤ q → q < p → X q ≡ Z q) → X p ≢ Z p → X p ≡ true
 
 -- X makes every atom of the list true
 abbrev pub Trues : Atoms → List ℕ → Type 0

@@ -1,0 +1,21 @@
+#!/bin/sh
+# Times the library against the same defined search in plain Rust: bench/run.sh. Needs rustc; run `rt staticlib dock` first.
+# `bench/run.sh check` compares the baseline with the vectors instead.
+set -eu
+cd "$(dirname "$0")/.."
+mkdir -p target/bench
+if [ "${1:-}" = check ]; then
+    rustc -O --edition 2021 bench/src/check.rs -o target/bench/check
+    python3 tools/enumerate.py target/bench
+    target/bench/check lines tools/lines.txt
+    target/bench/check cases target/bench/cases.bin target/bench/cases.stdout
+    exit
+fi
+library=target/staticlib
+if [ -f "$library/libdock.a" ]; then
+    rustc -O --edition 2021 --cfg dock --check-cfg 'cfg(dock)' -L "$library" -l static=dock bench/src/main.rs -o target/bench/bench
+else
+    echo "no $library/libdock.a (rt staticlib dock makes it)"
+    rustc -O --edition 2021 --check-cfg 'cfg(dock)' bench/src/main.rs -o target/bench/bench
+fi
+exec target/bench/bench

@@ -1,0 +1,72 @@
+//! How much stack a call takes: it runs on a thread whose stack was painted, and the paint that is left is counted.
+
+use crate::{dock, tables};
+use std::ffi::{c_int, c_void};
+
+const SIZE: usize = 1 << 21;
+const PAINT: u64 = 0xa5c3_96d2_5ae1_781f;
+
+// Linux's pthread_attr_t has 56 bytes on x86-64 and 64 on Arm.
+#[repr(C, align(16))]
+struct Attributes([u64; 16]);
+
+extern "C" {
+    fn pthread_attr_init(attributes: *mut Attributes) -> c_int;
+    fn pthread_attr_setstack(attributes: *mut Attributes, stack: *mut c_void, size: usize) -> c_int;
+    fn pthread_create(
+        thread: *mut usize,
+        attributes: *const Attributes,
+        run: extern "C" fn(*mut c_void) -> *mut c_void,
+        argument: *mut c_void,
+    ) -> c_int;
+    fn pthread_join(thread: usize, result: *mut *mut c_void) -> c_int;
+}
+
+#[repr(align(4096))]
+#[derive(Clone, Copy)]
+struct Page(#[allow(dead_code)] [u64; 512]);
+
+enum Call<'a> {
+    Nothing,
+    Solve(&'a [i32]),
+    Approve(&'a [i32]),
+}
+
+extern "C" fn run(argument: *mut c_void) -> *mut c_void {
+    // The pointer is to the caller's Call, which outlives the thread.
+    let mut plan = [0; 256];
+    match unsafe { &*(argument as *const Call) } {
+        Call::Nothing => {}
+        Call::Solve(words) => drop(dock::solve(words, u32::MAX, &mut plan)),
+        Call::Approve(words) => drop(dock::approve(words, &plan)),
+    }
+    std::ptr::null_mut()
+}
+
+/// The bytes of the thread's stack that a call overwrote.
+fn overwritten(call: Call) -> usize {
+    let mut stack = vec![Page([PAINT; 512]); SIZE / 4096];
+    let start = stack.as_mut_ptr();
+    // The stack outlives the thread, which is joined here; only after that is it read.
+    unsafe {
+        let mut attributes = Attributes([0; 16]);
+        let mut thread = 0;
+        assert_eq!(pthread_attr_init(&mut attributes), 0);
+        assert_eq!(pthread_attr_setstack(&mut attributes, start as *mut c_void, SIZE), 0);
+        let argument = &call as *const Call as *mut c_void;
+        assert_eq!(pthread_create(&mut thread, &attributes, run, argument), 0);
+        assert_eq!(pthread_join(thread, std::ptr::null_mut()), 0);
+        let words = std::slice::from_raw_parts(start as *const u64, SIZE / 8);
+        SIZE - 8 * words.iter().take_while(|&&word| word == PAINT).count()
+    }
+}
+
+pub fn print_peaks(tables: &[tables::Named]) {
+    println!("\npeak stack of a call, bytes (the thread's own part taken off)");
+    let own = overwritten(Call::Nothing);
+    for table in tables {
+        let solve = overwritten(Call::Solve(&table.words)) - own;
+        let approve = overwritten(Call::Approve(&table.words)) - own;
+        println!("{:32} solve {solve:>7}  approve {approve:>7}", table.name);
+    }
+}

@@ -1,0 +1,213 @@
+//! The tables of the benchmark. Each is made here, by fixed random numbers where it needs any.
+
+pub struct Named {
+    pub name: String,
+    pub words: Vec<i32>,
+}
+
+/// A table in the making: aggregates and rules, counted.
+#[derive(Default)]
+struct Builder {
+    atoms: i32,
+    aggregates: Vec<Vec<i32>>,
+    rules: Vec<Vec<i32>>,
+}
+
+impl Builder {
+    fn new(atoms: i32) -> Builder {
+        Builder { atoms, ..Builder::default() }
+    }
+
+    /// Adds an aggregate and gives its number.
+    fn aggregate(&mut self, function: i32, comparison: i32, threshold: i32, elements: &[(i32, i32)]) -> i32 {
+        let mut words = vec![function, comparison, threshold, elements.len() as i32];
+        words.extend(elements.iter().flat_map(|&(value, atom)| [value, atom]));
+        self.aggregates.push(words);
+        self.aggregates.len() as i32
+    }
+
+    fn rule(&mut self, head: &[i32], positive: &[i32], negated: &[i32], literals: &[i32]) {
+        let mut words = Vec::new();
+        for list in [head, positive, negated, literals] {
+            let mut list = list.to_vec();
+            list.sort_by_key(|word| word.abs());
+            list.dedup();
+            words.push(list.len() as i32);
+            words.extend(list);
+        }
+        self.rules.push(words);
+    }
+
+    fn table(self, name: &str) -> Named {
+        let mut words = vec![self.atoms, self.aggregates.len() as i32];
+        words.extend(self.aggregates.iter().flatten());
+        words.push(self.rules.len() as i32);
+        words.extend(self.rules.iter().flatten());
+        Named { name: name.to_string(), words }
+    }
+}
+
+/// Random numbers (xorshift).
+struct Random(u64);
+
+impl Random {
+    fn below(&mut self, bound: i32) -> i32 {
+        self.0 ^= self.0 << 13;
+        self.0 ^= self.0 >> 7;
+        self.0 ^= self.0 << 17;
+        (self.0 % bound as u64) as i32
+    }
+}
+
+/// `1 :- 2. 2 :- 3. ..`, the last a fact: every pass defines one atom.
+fn chain() -> Named {
+    let mut builder = Builder::new(256);
+    for i in 1..256 {
+        builder.rule(&[i], &[i + 1], &[], &[]);
+    }
+    builder.rule(&[256], &[], &[], &[]);
+    builder.table("chain of 256, worst order")
+}
+
+/// Each bird in one of the holes, no two in one: none, by search alone.
+fn pigeons(birds: i32, holes: i32) -> Named {
+    let mut builder = Builder::new(birds * holes);
+    let at = |bird, hole| bird * holes + hole + 1;
+    for bird in 0..birds {
+        let head: Vec<i32> = (0..holes).map(|hole| at(bird, hole)).collect();
+        builder.rule(&head, &[], &[], &[]);
+    }
+    for hole in 0..holes {
+        for second in 0..birds {
+            for first in 0..second {
+                builder.rule(&[], &[at(first, hole), at(second, hole)], &[], &[]);
+            }
+        }
+    }
+    builder.table(&format!("{birds} pigeons, {holes} holes"))
+}
+
+/// A night's plan: each lane is done (odd atom) or rests (even atom); the weights of the lanes done stay within
+/// the carts' load and reach the night's need; above a threshold a cart must charge, and some lanes cannot then
+/// be done; some pairs of lanes are in each other's way; of each block of lanes some must be done.
+fn night(lanes: i32, seed: u64) -> Named {
+    let mut random = Random(seed);
+    let mut builder = Builder::new(2 * lanes + 1);
+    let charge = 2 * lanes + 1;
+    let done = |lane: i32| 2 * lane + 1;
+    let weights: Vec<(i32, i32)> = (0..lanes).map(|lane| (1 + random.below(50), done(lane))).collect();
+    let whole: i32 = weights.iter().map(|&(weight, _)| weight).sum();
+    let overload = builder.aggregate(1, 1, whole * 42 / 100, &weights);
+    let too_little = builder.aggregate(1, 0, whole * 36 / 100, &weights);
+    let must_charge = builder.aggregate(1, 1, whole * 32 / 100, &weights);
+    for lane in 0..lanes {
+        builder.rule(&[done(lane), done(lane) + 1], &[], &[], &[]);
+    }
+    builder.rule(&[charge], &[], &[], &[must_charge]);
+    builder.rule(&[], &[], &[], &[overload]);
+    builder.rule(&[], &[], &[], &[too_little]);
+    for lane in 0..lanes {
+        let other = lane + 1 + random.below(5);
+        if other < lanes && random.below(4) > 0 {
+            builder.rule(&[], &[done(lane), done(other)], &[], &[]);
+        }
+        if random.below(6) == 0 {
+            builder.rule(&[], &[done(lane), charge], &[], &[]);
+        }
+    }
+    for block in 0..lanes / 10 {
+        let few: Vec<(i32, i32)> = (10 * block..10 * block + 10).map(|lane| (1, done(lane))).collect();
+        let too_few = builder.aggregate(0, 0, 3, &few);
+        builder.rule(&[], &[], &[], &[too_few]);
+    }
+    builder.table(&format!("night plan, {lanes} lanes"))
+}
+
+/// Nodes in a ring with chords, each of one colour, neighbours of two.
+fn colouring(nodes: i32, colours: i32, chords: i32, seed: u64) -> Named {
+    let mut random = Random(seed);
+    let mut builder = Builder::new(nodes * colours);
+    let at = |node, colour| node * colours + colour + 1;
+    for node in 0..nodes {
+        let head: Vec<i32> = (0..colours).map(|colour| at(node, colour)).collect();
+        builder.rule(&head, &[], &[], &[]);
+    }
+    let mut edges: Vec<(i32, i32)> = (0..nodes).map(|node| (node, (node + 1) % nodes)).collect();
+    while edges.len() < (nodes + chords) as usize {
+        let (a, b) = (random.below(nodes), random.below(nodes));
+        if a < b && !edges.contains(&(a, b)) && !edges.contains(&(b, a)) {
+            edges.push((a, b));
+        }
+    }
+    for (a, b) in edges {
+        for colour in 0..colours {
+            builder.rule(&[], &[at(a, colour), at(b, colour)], &[], &[]);
+        }
+    }
+    builder.table(&format!("colouring, {nodes} nodes, {colours} colours"))
+}
+
+/// 256 atoms and 1,023 rules of 16 words: 64 pairs are guessed, the other atoms follow from lower ones.
+fn full(seed: u64) -> Named {
+    let mut random = Random(seed);
+    let mut builder = Builder::new(256);
+    for pair in 0..64 {
+        builder.rule(&[2 * pair + 1], &[], &[2 * pair + 2], &[]);
+        builder.rule(&[2 * pair + 2], &[], &[2 * pair + 1], &[]);
+    }
+    while builder.rules.len() < 1024 {
+        let rest = 1024 - builder.rules.len() as i32;
+        let p = 129 + (rest % 128);
+        let positive = distinct(&mut random, p - 1, 6);
+        let negated = distinct(&mut random, p - 1, 6);
+        let is_constraint = rest % 16 == 0;
+        builder.rule(if is_constraint { &[] } else { std::slice::from_ref(&p) }, &positive, &negated, &[]);
+    }
+    builder.table("1,024 rules, 256 atoms")
+}
+
+fn distinct(random: &mut Random, bound: i32, count: usize) -> Vec<i32> {
+    let mut chosen = Vec::new();
+    while chosen.len() < count {
+        let atom = 1 + random.below(bound);
+        if !chosen.contains(&atom) {
+            chosen.push(atom);
+        }
+    }
+    chosen
+}
+
+/// 64 aggregates of 64 elements each, over 64 guessed atoms; each decides an atom, and constraints follow.
+fn aggregates(seed: u64) -> Named {
+    let mut random = Random(seed);
+    let mut builder = Builder::new(128);
+    for pair in 0..32 {
+        builder.rule(&[2 * pair + 1, 2 * pair + 2], &[], &[], &[]);
+    }
+    for j in 0..64 {
+        let elements: Vec<(i32, i32)> = (1..=64).map(|atom| (random.below(1000), atom)).collect();
+        let threshold = [31 + random.below(3), 15_000 + random.below(2000), random.below(60), 940 + random.below(60)];
+        let number = builder.aggregate(j % 4, (j / 4) % 2, threshold[j as usize % 4], &elements);
+        builder.rule(&[65 + j], &[], &[], &[if j % 3 == 0 { -number } else { number }]);
+    }
+    for _ in 0..24 {
+        let (a, b) = (65 + random.below(64), 65 + random.below(64));
+        builder.rule(&[], &[a, 1 + random.below(64)], &[b], &[]);
+    }
+    builder.table("64 aggregates of 64 elements")
+}
+
+pub fn all() -> Vec<Named> {
+    vec![
+        chain(),
+        pigeons(7, 6),
+        pigeons(8, 7),
+        night(40, 7),
+        night(60, 4),
+        colouring(30, 3, 40, 5),
+        colouring(40, 3, 50, 4),
+        colouring(50, 4, 140, 5),
+        full(17),
+        aggregates(10),
+    ]
+}

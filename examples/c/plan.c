@@ -1,0 +1,87 @@
+/* Solves a small table, checks the plan, and shows what happens to the buffers. Built and run by examples/test.sh. */
+#include <stdio.h>
+#include <stdlib.h>
+#include <string.h>
+
+#include "saucepebbly.h"
+
+#define UNTOUCHED 7
+
+/* 1 | 2.  3 | 4.  5 | 6.  7 | 8.  and four constraints that together rule out atom 1. */
+static const int32_t TABLE[] = {
+    8, 0, 8,                                                                           /* atoms, aggregates, rules */
+    2, 1, 2, 0, 0, 0,    2, 3, 4, 0, 0, 0,    2, 5, 6, 0, 0, 0,    2, 7, 8, 0, 0, 0,    /* the pairs */
+    0, 3, 1, 5, 7, 0, 0, 0, 3, 1, 5, 8, 0, 0, 0, 3, 1, 6, 7, 0, 0, 0, 3, 1, 6, 8, 0, 0, /* the constraints */
+};
+#define TABLE_WORDS (sizeof TABLE / sizeof TABLE[0])
+
+static void expect(int is_so, const char *what) {
+    if (!is_so) {
+        printf("WRONG: %s\n", what);
+        exit(1);
+    }
+}
+
+static int all_untouched(const uint8_t *bytes, size_t from, size_t to) {
+    for (size_t i = from; i < to; i++) {
+        if (bytes[i] != UNTOUCHED) {
+            return 0;
+        }
+    }
+    return 1;
+}
+
+static void solve_it(uint8_t *plan, size_t plan_len) {
+    uint32_t report[3] = {99, 99, 99};
+    uint32_t kind = saucepebbly_solve(TABLE, TABLE_WORDS, 100, plan, plan_len, report, 2);
+    expect(kind == SAUCEPEBBLY_ANSWER, "an answer");
+    expect(all_untouched(plan, 8, plan_len), "bytes past the atoms are kept");
+    expect(report[2] == 99, "only two places of the report are written");
+    printf("answer %u %u:", (unsigned)report[0], (unsigned)report[1]);
+    for (int i = 0; i < 8; i++) {
+        if (plan[i] == 1) {
+            printf(" %d", i + 1);
+        }
+    }
+    printf("\n");
+}
+
+static void approve_it(uint8_t *plan, size_t plan_len) {
+    uint32_t report[2] = {0, 0};
+    expect(saucepebbly_approve(TABLE, TABLE_WORDS, plan, plan_len, report, 2) == SAUCEPEBBLY_YES, "the plan is approved");
+    plan[3] = 1;
+    expect(saucepebbly_approve(TABLE, TABLE_WORDS, plan, plan_len, report, 2) == SAUCEPEBBLY_NO, "atom 4 has no rule left");
+    plan[3] = 2;
+    expect(saucepebbly_approve(TABLE, TABLE_WORDS, plan, plan_len, report, 2) == SAUCEPEBBLY_REFUSED, "2 is no truth value");
+    expect(plan[3] == 2 && all_untouched(plan, 8, plan_len), "a check never writes");
+    printf("yes, no, refused %u %u\n", (unsigned)report[0], (unsigned)report[1]);
+}
+
+static void end_otherwise(uint8_t *plan, size_t plan_len) {
+    static const int32_t ODD_LOOP[] = {1, 0, 1, 1, 1, 0, 1, 1, 0}; /* 1 :- not 1. */
+    uint32_t report[2] = {0, 0};
+    memset(plan, UNTOUCHED, plan_len);
+    expect(saucepebbly_solve(TABLE, TABLE_WORDS, 5, plan, plan_len, report, 2) == SAUCEPEBBLY_LIMIT, "the limit");
+    printf("limit %u %u\n", (unsigned)report[0], (unsigned)report[1]);
+    expect(saucepebbly_solve(ODD_LOOP, 9, 100, plan, plan_len, report, 2) == SAUCEPEBBLY_NONE, "none");
+    printf("none %u %u\n", (unsigned)report[0], (unsigned)report[1]);
+    expect(saucepebbly_solve(TABLE, 4, 100, plan, plan_len, report, 2) == SAUCEPEBBLY_REFUSED, "a word is absent");
+    printf("refused %u %u\n", (unsigned)report[0], (unsigned)report[1]);
+    expect(saucepebbly_solve(TABLE, TABLE_WORDS, 100, plan, 255, report, 2) == SAUCEPEBBLY_REFUSED, "a short plan buffer");
+    printf("refused %u %u\n", (unsigned)report[0], (unsigned)report[1]);
+    expect(saucepebbly_solve(NULL, 0, 100, plan, plan_len, report, 2) == SAUCEPEBBLY_REFUSED, "no words");
+    printf("refused %u %u\n", (unsigned)report[0], (unsigned)report[1]);
+    report[0] = 99;
+    expect(saucepebbly_solve(TABLE, 4, 100, plan, plan_len, report, 1) == SAUCEPEBBLY_REFUSED, "a short report");
+    expect(report[0] == 99, "a short report is not written");
+    expect(all_untouched(plan, 0, plan_len), "only an answer writes the plan");
+}
+
+int main(void) {
+    uint8_t plan[300];
+    memset(plan, UNTOUCHED, sizeof plan);
+    solve_it(plan, sizeof plan);
+    approve_it(plan, sizeof plan);
+    end_otherwise(plan, sizeof plan);
+    return 0;
+}

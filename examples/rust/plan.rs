@@ -1,0 +1,109 @@
+//! Solves a small table, checks the plan, and shows what happens to the buffers. Built and run by examples/test.sh.
+
+mod saucepebbly {
+    //! The two entries of include/saucepebbly.h behind safe functions: slices in, an enum out.
+
+    extern "C" {
+        fn saucepebbly_solve(
+            words: *const i32,
+            words_len: usize,
+            limit: u32,
+            plan: *mut u8,
+            plan_len: usize,
+            report: *mut u32,
+            report_len: usize,
+        ) -> u32;
+        fn saucepebbly_approve(
+            words: *const i32,
+            words_len: usize,
+            plan: *const u8,
+            plan_len: usize,
+            report: *mut u32,
+            report_len: usize,
+        ) -> u32;
+    }
+
+    #[derive(Debug, PartialEq)]
+    pub enum Solved {
+        Answer { choices: u32, skips: u32 },
+        None { choices: u32, skips: u32 },
+        Limit { choices: u32, skips: u32 },
+        Refused { number: u32, place: u32 },
+    }
+
+    #[derive(Debug, PartialEq)]
+    pub enum Approved {
+        Yes,
+        No,
+        Refused { number: u32, place: u32 },
+    }
+
+    pub fn solve(words: &[i32], limit: u32, plan: &mut [u8]) -> Solved {
+        let mut report = [0; 2];
+        // Each pointer comes with the length of its own slice, and the entry keeps none of them.
+        let kind = unsafe {
+            let (plan, plan_len) = (plan.as_mut_ptr(), plan.len());
+            saucepebbly_solve(words.as_ptr(), words.len(), limit, plan, plan_len, report.as_mut_ptr(), report.len())
+        };
+        let [first, second] = report;
+        match kind {
+            0 => Solved::Answer { choices: first, skips: second },
+            1 => Solved::None { choices: first, skips: second },
+            2 => Solved::Limit { choices: first, skips: second },
+            _ => Solved::Refused { number: first, place: second },
+        }
+    }
+
+    pub fn approve(words: &[i32], plan: &[u8]) -> Approved {
+        let mut report = [0; 2];
+        // As above.
+        let kind = unsafe {
+            saucepebbly_approve(words.as_ptr(), words.len(), plan.as_ptr(), plan.len(), report.as_mut_ptr(), report.len())
+        };
+        match kind {
+            0 => Approved::Yes,
+            1 => Approved::No,
+            _ => Approved::Refused { number: report[0], place: report[1] },
+        }
+    }
+}
+
+use saucepebbly::{approve, solve, Approved, Solved};
+
+const UNTOUCHED: u8 = 7;
+
+/// 1 | 2.  3 | 4.  5 | 6.  7 | 8.  and four constraints that together rule out atom 1.
+#[rustfmt::skip]
+const TABLE: [i32; 55] = [
+    8, 0, 8,
+    2, 1, 2, 0, 0, 0,  2, 3, 4, 0, 0, 0,  2, 5, 6, 0, 0, 0,  2, 7, 8, 0, 0, 0,
+    0, 3, 1, 5, 7, 0, 0,  0, 3, 1, 5, 8, 0, 0,  0, 3, 1, 6, 7, 0, 0,  0, 3, 1, 6, 8, 0, 0,
+];
+
+fn main() {
+    let mut plan = [UNTOUCHED; 300];
+    let Solved::Answer { choices, skips } = solve(&TABLE, 100, &mut plan) else { panic!("an answer") };
+    assert!(plan[8..].iter().all(|&byte| byte == UNTOUCHED), "bytes past the atoms are kept");
+    let atoms: Vec<String> = (1..=8).filter(|&i| plan[i - 1] == 1).map(|i| i.to_string()).collect();
+    println!("answer {choices} {skips}: {}", atoms.join(" "));
+
+    let before = plan;
+    assert_eq!(approve(&TABLE, &plan), Approved::Yes);
+    plan[3] = 1;
+    assert_eq!(approve(&TABLE, &plan), Approved::No);
+    plan[3] = 2;
+    let Approved::Refused { number, place } = approve(&TABLE, &plan) else { panic!("2 is no truth value") };
+    assert!(plan[..3] == before[..3] && plan[4..] == before[4..], "a check never writes");
+    println!("yes, no, refused {number} {place}");
+
+    let mut plan = [UNTOUCHED; 300];
+    let Solved::Limit { choices, skips } = solve(&TABLE, 5, &mut plan) else { panic!("the limit") };
+    println!("limit {choices} {skips}");
+    let Solved::None { choices, skips } = solve(&[1, 0, 1, 1, 1, 0, 1, 1, 0], 100, &mut plan) else { panic!("none") };
+    println!("none {choices} {skips}");
+    for (words, length) in [(&TABLE[..4], 300), (&TABLE[..], 255), (&[][..], 300)] {
+        let Solved::Refused { number, place } = solve(words, 100, &mut plan[..length]) else { panic!("a refusal") };
+        println!("refused {number} {place}");
+    }
+    assert_eq!(plan, [UNTOUCHED; 300], "only an answer writes the plan");
+}

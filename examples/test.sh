@@ -1,0 +1,15 @@
+#!/bin/sh
+# Builds the C and the Rust example with cc and rustc alone, runs them, and compares what they print.
+set -eu
+cd "$(dirname "$0")/.."
+if [ ! -f target/staticlib/libdock.a ]; then
+    echo "no target/staticlib/libdock.a (rt staticlib dock makes it)"
+    exit 1
+fi
+mkdir -p target/examples
+cc -std=c11 -Wall -Wextra -Werror -O2 -I include examples/c/plan.c target/staticlib/libdock.a -o target/examples/plan_c
+rustc -O --edition 2021 -D warnings -L target/staticlib -l static=dock examples/rust/plan.rs -o target/examples/plan_rust
+for program in plan_c plan_rust; do
+    "target/examples/$program" | diff - examples/expected
+    echo "$program: ok"
+done
