@@ -2,11 +2,12 @@
 # Times the library against the same defined search in plain Rust: bench/run.sh. Needs rustc; run `rt staticlib dock` first.
 # `bench/run.sh check` compares the baseline with the vectors instead.
 set -eu
+export PYTHONDONTWRITEBYTECODE=1
 cd "$(dirname "$0")/.."
 mkdir -p target/bench
 if [ "${1:-}" = check ]; then
     rustc -O --edition 2021 bench/src/check.rs -o target/bench/check
-    python3 tools/enumerate.py target/bench
+    python3 tools/cases.py target/bench
     target/bench/check lines tools/lines.txt
     target/bench/check cases target/bench/cases.bin target/bench/cases.stdout
     exit

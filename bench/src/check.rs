@@ -1,6 +1,6 @@
 //! Compares the baseline with the vectors:
 //!     check lines FILE                an input of the text program and, after `= `, what it must print
-//!     check cases CASES.bin STDOUT    the enumerator's cases (tools/enumerate.py says what they are)
+//!     check cases CASES.bin STDOUT    the enumerator's cases (tools/cases.py says what they are)
 //!     check text                      prints the line for the text on standard input
 mod baseline;
 

@@ -32,8 +32,7 @@ pub fn solve(words: &[i32], limit: u32, plan: &mut [u8]) -> (u32, [u32; 2]) {
 pub fn approve(words: &[i32], plan: &[u8]) -> (u32, [u32; 2]) {
     let mut report = [0; 2];
     // As above.
-    let kind = unsafe {
-        saucepebbly_approve(words.as_ptr(), words.len(), plan.as_ptr(), plan.len(), report.as_mut_ptr(), 2)
-    };
+    let kind =
+        unsafe { saucepebbly_approve(words.as_ptr(), words.len(), plan.as_ptr(), plan.len(), report.as_mut_ptr(), 2) };
     (kind, if kind == 3 { report } else { [0, 0] })
 }

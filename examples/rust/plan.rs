@@ -58,7 +58,14 @@ mod saucepebbly {
         let mut report = [0; 2];
         // As above.
         let kind = unsafe {
-            saucepebbly_approve(words.as_ptr(), words.len(), plan.as_ptr(), plan.len(), report.as_mut_ptr(), report.len())
+            saucepebbly_approve(
+                words.as_ptr(),
+                words.len(),
+                plan.as_ptr(),
+                plan.len(),
+                report.as_mut_ptr(),
+                report.len(),
+            )
         };
         match kind {
             0 => Approved::Yes,

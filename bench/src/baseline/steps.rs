@@ -1,0 +1,184 @@
+//! Propagation: passes of steps a to e, with reasons.
+
+use super::reasons::Levels;
+use super::search::Search;
+use super::table::Rule;
+use super::values::{Values, FALSE, TRUE, UNDEFINED};
+
+/// The reason of a conflict.
+type Conflict = Levels;
+
+/// What one rule means for a rule step: at most one of its literals is undefined.
+enum Unit {
+    Nothing,
+    Conflict,
+    Head(usize),
+    Positive(usize),
+    Negated(usize),
+}
+
+impl<'a> Search<'a> {
+    /// Passes until one changes nothing, or a conflict ends it.
+    pub fn propagate(&mut self) -> Result<(), Conflict> {
+        loop {
+            let defined = self.trail.len();
+            for rule in &self.table.rules {
+                self.rule_steps(rule)?;
+            }
+            for p in 1..=self.table.atoms {
+                if self.values[p] != FALSE {
+                    self.atom_steps(p)?;
+                }
+            }
+            if self.trail.len() == defined {
+                return Ok(());
+            }
+        }
+    }
+
+    /// Steps a, b, c.
+    fn rule_steps(&mut self, rule: &Rule) -> Result<(), Conflict> {
+        let (p, value) = match self.unit(rule) {
+            Unit::Nothing => return Ok(()),
+            Unit::Conflict => return Err(self.rule_reason(rule)),
+            Unit::Head(p) => (p, TRUE),
+            Unit::Positive(q) => (q, FALSE),
+            Unit::Negated(q) => (q, TRUE),
+        };
+        // The atom itself is undefined and adds nothing. (In an aggregate it may stand, undefined, too.)
+        let reason = self.rule_reason(rule);
+        self.set(p, value, reason);
+        Ok(())
+    }
+
+    /// Nothing if the rule holds, if more than one literal is undefined, or if that one is an aggregate literal.
+    fn unit(&self, rule: &Rule) -> Unit {
+        let mut unit = Unit::Conflict;
+        let mut undefined = 0;
+        for &p in rule.head {
+            match self.values[p as usize] {
+                TRUE => return Unit::Nothing,
+                UNDEFINED => (unit, undefined) = (Unit::Head(p as usize), undefined + 1),
+                _ => {}
+            }
+        }
+        for &q in rule.positive {
+            match self.values[q as usize] {
+                FALSE => return Unit::Nothing,
+                UNDEFINED => (unit, undefined) = (Unit::Positive(q as usize), undefined + 1),
+                _ => {}
+            }
+        }
+        for &q in rule.negated {
+            match self.values[q as usize] {
+                TRUE => return Unit::Nothing,
+                UNDEFINED => (unit, undefined) = (Unit::Negated(q as usize), undefined + 1),
+                _ => {}
+            }
+        }
+        if undefined > 1 || rule.literals.iter().any(|&l| self.table.literal(l, &self.values) != TRUE) {
+            return Unit::Nothing;
+        }
+        unit
+    }
+
+    fn rule_reason(&self, rule: &Rule) -> Levels {
+        let mut reason = Levels::default();
+        for &p in rule.head.iter().chain(rule.positive).chain(rule.negated) {
+            self.add_reason(p, &mut reason);
+        }
+        for &literal in rule.literals {
+            self.add_literal_reason(literal, &mut reason);
+        }
+        reason
+    }
+
+    fn add_reason(&self, p: i32, reason: &mut Levels) {
+        if self.values[p as usize] != UNDEFINED {
+            reason.add(&self.reasons[p as usize]);
+        }
+    }
+
+    fn add_literal_reason(&self, literal: i32, reason: &mut Levels) {
+        for element in self.table.aggregate(literal).elements.chunks_exact(2) {
+            self.add_reason(element[1], reason);
+        }
+    }
+
+    /// Steps d and e for p, true or undefined.
+    fn atom_steps(&mut self, p: usize) -> Result<(), Conflict> {
+        let mut supporting = self.rules_with(p).filter(|rule| self.supports(rule, p));
+        let (first, second) = (supporting.next(), supporting.next());
+        match (first, second) {
+            (None, _) if self.values[p] == TRUE => {
+                let mut reason = self.witnesses(p);
+                reason.add(&self.reasons[p]);
+                Err(reason)
+            }
+            (None, _) => {
+                let reason = self.witnesses(p);
+                self.set(p, FALSE, reason);
+                Ok(())
+            }
+            (Some(rule), None) if self.values[p] == TRUE => {
+                self.follow(rule, p);
+                Ok(())
+            }
+            _ => Ok(()),
+        }
+    }
+
+    fn rules_with(&self, p: usize) -> impl Iterator<Item = &'a Rule<'a>> {
+        let table = self.table;
+        let (listed, all): (&[u16], &[Rule]) =
+            if self.settings.by_head { (&table.by_head[p], &[]) } else { (&[], &table.rules) };
+        let listed = listed.iter().map(move |&number| &table.rules[number as usize]);
+        listed.chain(all.iter().filter(move |rule| rule.head.contains(&(p as i32))))
+    }
+
+    fn supports(&self, rule: &Rule, p: usize) -> bool {
+        rule.head.iter().all(|&q| q as usize == p || self.values[q as usize] != TRUE)
+            && rule.positive.iter().all(|&q| self.values[q as usize] != FALSE)
+            && rule.negated.iter().all(|&q| self.values[q as usize] != TRUE)
+            && rule.literals.iter().all(|&l| self.table.literal(l, &self.values) != FALSE)
+    }
+
+    /// The union of the witnesses' reasons over the rules with p in the head that do not support it.
+    fn witnesses(&self, p: usize) -> Levels {
+        let mut reason = Levels::default();
+        for rule in self.rules_with(p) {
+            self.add_witness(rule, p, &mut reason);
+        }
+        reason
+    }
+
+    /// Adds the reason of the one witness, if the rule fails to support p.
+    fn add_witness(&self, rule: &Rule, p: usize, reason: &mut Levels) {
+        let is = |q: i32, value: u8| self.values[q as usize] == value;
+        let other = rule.head.iter().find(|&&q| q as usize != p && is(q, TRUE));
+        let positive = || rule.positive.iter().find(|&&q| is(q, FALSE));
+        let negated = || rule.negated.iter().find(|&&q| is(q, TRUE));
+        if let Some(&q) = other.or_else(positive).or_else(negated) {
+            reason.add(&self.reasons[q as usize]);
+        } else if let Some(&l) = rule.literals.iter().find(|&&l| self.table.literal(l, &self.values) == FALSE) {
+            self.add_literal_reason(l, reason);
+        }
+    }
+
+    /// Step e: the only rule that supports the true atom p.
+    fn follow(&mut self, rule: &Rule, p: usize) {
+        let is_open = |values: &Values, list: &[i32]| list.iter().any(|&q| values[q as usize] == UNDEFINED);
+        if ![rule.head, rule.positive, rule.negated].iter().any(|list| is_open(&self.values, list)) {
+            return;
+        }
+        let mut reason = self.witnesses(p);
+        reason.add(&self.reasons[p]);
+        for (list, value) in [(rule.head, FALSE), (rule.positive, TRUE), (rule.negated, FALSE)] {
+            for &q in list {
+                if self.values[q as usize] == UNDEFINED {
+                    self.set(q as usize, value, reason);
+                }
+            }
+        }
+    }
+}
