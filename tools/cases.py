@@ -92,6 +92,7 @@ def bytes_of(number):
 
 
 def encoded(case):
+    assert len(case.words) <= MOST_WORDS + 1 and len(case.plan) <= case.length <= 257
     numbers = [len(case.words), case.length, len(case.plan)] + case.words + case.plan
     return b"".join(map(bytes_of, numbers))
 

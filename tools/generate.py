@@ -251,7 +251,7 @@ def word_cases():
     rule = [1, 3, 2, 1, 2, 1, 3, 8, 1, 2, 3, 4, 5, 6, 7]
     full = [3, 8] + [0, 1, -1, 0] * 8 + [1024] + (rule + [-8]) * 989 + (rule[:7] + [7] + rule[8:]) * 35
     assert len(full) == MOST_WORDS
-    tables += [full, full + [0], full[:-1], full + [1, 2]]
+    tables += [full, full + [0], full[:-1]]
     return [Case(table) for table in tables] + every_prefix(SAMPLE) + every_prefix(tables[1])
 
 

@@ -15,7 +15,7 @@ use Rattle.search.specs.Search.{Problem, Tested, passed, failed, exhaust
 use Rattle.interpretation.specs.State.{lowest, trueAtoms}
 use Rattle.search.proofs.Parts.{lowest-some, target-le}
 
-pub meas : Problem → ℕ → State → ℕ
+unfoldable pub meas : Problem → ℕ → State → ℕ
 meas P lim c = (lim - c .choices) * suc (P .atoms) + c .interpretation .level
 
 Falls : Problem → ℕ → State → Next → Type 0
@@ -67,6 +67,10 @@ module _ (P : Problem) (mode : Mode) (lim : ℕ) (c : State) where
   turn-falls : Falls P lim c (turn P mode lim c)
   unfolding turn
   turn-falls = settle-falls ((P .propagate (c .interpretation) (c .reason)) .verdict)
+
+  pub turn-less : (d : State) → turn P mode lim c ≡ go d → meas P lim d < meas P lim c
+  unfolding Falls
+  turn-less d e = subst (Falls P lim c) e turn-falls
 
 module _ (P : Problem) (mode : Mode) (lim : ℕ) where
   cont-ends : (n : ℕ) (c : State) → meas P lim c < suc n → ((d : State) → meas P lim d < n → (o : Outcome) × (run P mode lim n d ≡ some o))

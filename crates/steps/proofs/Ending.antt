@@ -19,6 +19,10 @@ use Rattle.interpretation.proofs.Cells.{cellCase, not-defined}
 use Rattle.steps.proofs.Lits.{atom-undefined, atom-defined}
 use Rattle.steps.proofs.Lift.{by-pass}
 
+-- atom q + 1 is undefined
+unfoldable pub missing : (ℕ → Cell) → ℕ → Bool
+missing a q = saysUndefined (cellValue (a (suc q)))
+
 module _ (n : ℕ) where
   -- u has all that w has defined, and if it is marked as changed and w is not, one atom more
   record Grows (w u : Work) : Type 0 where
@@ -53,35 +57,31 @@ module _ (n : ℕ) where
     grows-pass : (w : Work) → Grows (unchanged w) (pass P n w)
     grows-pass w = by-pass n Grows grows-id grows-then grows-set (λ C w. record { keeps = λ p v l e. e; new = λ h. inl h }) P A w
 
-    -- atom q + 1 is undefined
-    missing : Work → ℕ → Bool
-    missing w q = saysUndefined (cellValue (w .cell (suc q)))
-
-    fewer : (w : Work) → Is ((pass P n w) .changed) → number n (missing (pass P n w)) < number n (missing w)
+    pub fewer : (w : Work) → Is ((pass P n w) .changed) → number n (missing ((pass P n w) .cell)) < number n (missing (w .cell))
     unfolding missing
     fewer w h = at (grows-pass w .new h)
       where
-        less : (a : ℕ) → a < n → Is (missing (pass P n w) a) → Is (missing w a)
+        less : (a : ℕ) → a < n → Is (missing ((pass P n w) .cell) a) → Is (missing (w .cell) a)
         less a k m = keep (cellCase (w .cell (suc a)))
           where
-            keep : (w .cell (suc a) ≡ undefined) ⊎ ((v : Bool) × (l : ℕ) × (w .cell (suc a) ≡ defined v l)) → Is (missing w a)
+            keep : (w .cell (suc a) ≡ undefined) ⊎ ((v : Bool) × (l : ℕ) × (w .cell (suc a) ≡ defined v l)) → Is (missing (w .cell) a)
             keep (inl e) = ap (λ (c : Cell). saysUndefined (cellValue c)) e
             keep (inr (v, l, e)) = absurd (clash m (atom-defined true ((pass P n w) .cell (suc a)) v l (grows-pass w .keeps (suc a) v l e)))
 
-        one : (p : ℕ) → In n p → w .cell p ≡ undefined → Defined ((pass P n w) .cell) p → number n (missing (pass P n w)) < number n (missing w)
+        one : (p : ℕ) → In n p → w .cell p ≡ undefined → Defined ((pass P n w) .cell) p → number n (missing ((pass P n w) .cell)) < number n (missing (w .cell))
         one zero i e d = absurd (omega (arith, i .0))
         one (suc q) i e (v, l, f) =
-            number-lt n (missing (pass P n w)) (missing w) less q (omega (arith, i .1)) (atom-defined true ((pass P n w) .cell (suc q)) v l f) (ap (λ (c : Cell). saysUndefined (cellValue c)) e)
+            number-lt n (missing ((pass P n w) .cell)) (missing (w .cell)) less q (omega (arith, i .1)) (atom-defined true ((pass P n w) .cell (suc q)) v l f) (ap (λ (c : Cell). saysUndefined (cellValue c)) e)
 
-        at : Is false ⊎ ((p : ℕ) × In n p × (w .cell p ≡ undefined) × Defined ((pass P n w) .cell) p) → number n (missing (pass P n w)) < number n (missing w)
+        at : Is false ⊎ ((p : ℕ) × In n p × (w .cell p ≡ undefined) × Defined ((pass P n w) .cell) p) → number n (missing ((pass P n w) .cell)) < number n (missing (w .cell))
         at (inl k) = absurd (clash k refl)
         at (inr (p, i, e, d)) = one p i e d
 
-    passes-stop : (f : ℕ) (w : Work) → number n (missing w) < f → Stopped P n (passes P n f w)
+    passes-stop : (f : ℕ) (w : Work) → number n (missing (w .cell)) < f → Stopped P n (passes P n f w)
     passes-stop zero w h = absurd (omega arith)
     passes-stop (suc f) w h = at ((pass P n w) .verdict) refl ((pass P n w) .changed) refl (λ k. passes-stop f (pass P n w) k)
       where
-        at : (v : Verdict) → (pass P n w) .verdict ≡ v → (b : Bool) → (pass P n w) .changed ≡ b → (number n (missing (pass P n w)) < f → Stopped P n (passes P n f (pass P n w)))
+        at : (v : Verdict) → (pass P n w) .verdict ≡ v → (b : Bool) → (pass P n w) .changed ≡ b → (number n (missing ((pass P n w) .cell)) < f → Stopped P n (passes P n f (pass P n w)))
             → Stopped P n (ifSettled v (cond b (passes P n f (pass P n w)) (pass P n w)) (pass P n w))
         at settled e true c g = g (omega (arith, fewer w c))
         at settled e false c g = atRest w refl c e
@@ -89,4 +89,4 @@ module _ (n : ℕ) where
 
     -- whatever the start
     pub passes-end : (w : Work) → Stopped P n (passes P n (suc n) w)
-    passes-end w = passes-stop (suc n) w (omega (arith, number-top n (missing w)))
+    passes-end w = passes-stop (suc n) w (omega (arith, number-top n (missing (w .cell))))

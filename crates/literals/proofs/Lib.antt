@@ -1,0 +1,7 @@
+-- Laws about the definitions.
+pub mod Alone
+pub mod Scans
+pub mod Together
+mod Walks
+mod Pairs
+mod Aggregates

@@ -1,0 +1,89 @@
+-- `literals::scan_literals` meets its contract. Assumes nothing.
+use borrow.Author.Needs.{needs}
+use mathlib.Core.Path.{_≡_, refl, sym, ap, _∙_}
+use mathlib.Core.Bool.{Bool, true, false}
+use Prim.Native.Nat.{ℕ, _+_, _-_, _*_, _/_, _≤_, _<_}
+use native.Mathlib.Omega.{arith}
+use lib.IntN.{ℤ, pos, natAbs}
+use lib.ListN.{length, getD, drop}
+use Rattle.interpretation.specs.View.{valued, cellValue}
+use Rattle.layout.specs.Layout.{pairs}
+use Rattle.valuing.specs.Values.{saysFalse, aggLit, value}
+use Rattle.layout.specs.Layout.{literalOf}
+use Rattle.literals.specs.declared.Scan.{Scan}
+use Rattle.literals.specs.Scan.{literalLits, scanFrom, scanOf}
+use Rattle.literals.proofs.Walks.{walk-on, walk-false, walk-end}
+use Rattle.literals.proofs.scan_literals.Statement.{statement}
+use Rattle.literals.proofs.scan_literals.Tie as tie
+use Rattle.literals.proofs.scan_literals.Reads as reads
+use Rattle.literals.proofs.scan_literals.Lts as lts
+use Rattle.literals.proofs.counted.Reads as counted-reads
+use Rattle.literals.proofs.literal_value.Reads as literal-value-reads
+use Rattle.literals.proofs.refutes.Reads as refutes-reads
+
+abbrev Inv-loop : tie.InvT-loop
+Inv-loop t tb l values so₀ i₀ so i = (i ≤ length l) × (scanFrom (valued values) i so (literalLits t (drop i l)) ≡ scanOf (valued values) (literalLits t l))
+
+abbrev μ-loop : tie.MeasureT-loop
+μ-loop t tb l values so₀ i₀ so i = length l - i
+
+loop-holds : tie.Need-loop-holds Inv-loop μ-loop
+loop-holds c = (omega arith, refl)
+
+literal-value-requires : tie.Need-literal-value-requires Inv-loop μ-loop
+literal-value-requires c κs = let p = c .before .before .pre in (p .0, p .1, omega arith)
+
+refutes-requires : tie.Need-refutes-requires Inv-loop μ-loop
+refutes-requires c κs = search needs
+
+returns : tie.Need-returns Inv-loop μ-loop
+returns c =
+    let b = c .before .before .before .before in
+    let a = b .before .args in
+    sym (walk-false (literalOf (a .t .now)) aggLit (valued (a .values .now)) (a .l .now) (b .loop .i) (b .loop .so) (c .before .before .before .loop-test .taken) _ (c .before .before .literal-value .ensures)
+    (sym (c .before .refutes .ensures) ∙ c .if1 .taken))
+    ∙ b .loop .inv .1
+
+counted-requires : tie.Need-counted-requires Inv-loop μ-loop
+counted-requires c κs = search needs
+
+add-i : tie.Need-add-i Inv-loop μ-loop
+add-i c = omega arith
+
+loop-less : tie.Need-loop-less Inv-loop μ-loop
+loop-less c = omega arith
+
+loop-again : tie.Need-loop-again Inv-loop μ-loop
+loop-again c =
+    let e = c .before in
+    let b = e .before .before .before .before in
+    let a = b .before .args in
+    let X = valued (a .values .now) in (
+      omega arith,
+      ap (λ (so : Scan). scanFrom X (b .loop .i + 1) so (literalLits (a .t .now) (drop (b .loop .i + 1) (a .l .now)))) (c .counted .ensures)
+          ∙ sym (walk-on (literalOf (a .t .now)) aggLit X (a .l .now) (b .loop .i) (b .loop .so) (e .before .before .before .loop-test .taken) _ (e .before .before .literal-value .ensures)
+          (sym (e .before .refutes .ensures) ∙ e .if1 .left))
+          ∙ b .loop .inv .1,
+    )
+
+returns-2 : tie.Need-returns-2 Inv-loop μ-loop
+returns-2 c =
+    let b = c .before in
+    let a = b .before .args in
+    sym (walk-end (literalOf (a .t .now)) aggLit (valued (a .values .now)) (a .l .now) (b .loop .i) (b .loop .so) (c .loop-test .left)) ∙ b .loop .inv .1
+
+pub scan-literals-spec : {M : Type 1} → statement M
+scan-literals-spec =
+    tie.close
+    (tie.spec
+    Inv-loop
+    μ-loop
+    loop-holds
+    literal-value-requires
+    refutes-requires
+    returns
+    counted-requires
+    add-i
+    loop-less
+    loop-again
+    returns-2)

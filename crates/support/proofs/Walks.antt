@@ -1,0 +1,97 @@
+-- How the code walks: a list of atoms from index i on, one atom at a time. Assumes nothing.
+use mathlib.Core.Path.{_≡_, refl, sym, ap, _∙_}
+use mathlib.Core.Logic.{_≢_}
+use mathlib.Core.Bool.{Bool, true, false, not, _&&_, _||_}
+use mathlib.Core.List.{List, [], _∷_}
+use Prim.Native.Nat.{ℕ, suc, _+_, _≤_, _<_}
+use native.Mathlib.Numerals.{add-one}
+use native.Mathlib.Omega.{arith}
+use lib.Dec.{eqb, eqb→eq, eqb-refl}
+use lib.IntN.{ℤ, pos, natAbs}
+use lib.ListN.{length, getD, drop, drop-of-length-le}
+use lib.Seq.{drop-cons}
+use Rattle.meaning.specs.Lists.{has}
+use Rattle.meaning.specs.Cond.{ifEq}
+use Rattle.meaning.proofs.Tools.{contra, T→Is, Is→T}
+use Rattle.interpretation.specs.declared.Value.{Value}
+use Rattle.interpretation.specs.declared.Choice.{Choice}
+use Rattle.interpretation.specs.declared.Choice.the-variants as choice
+use Rattle.layout.specs.Layout.{atoms}
+use Rattle.valuing.specs.Values.{saysTrue}
+use Rattle.support.specs.Asking.{sameValue, firstWith, otherTrue}
+
+pub eqb-same : (m n : ℕ) → m ≡ n → eqb m n ≡ true
+eqb-same m n e = ap (λ (k : ℕ). eqb m k) (sym e) ∙ T→Is (eqb m m) (eqb-refl m)
+
+pub eqb-not : (m n : ℕ) → (m ≡ n → ⊥) → eqb m n ≡ false
+eqb-not m n f = contra (eqb m n) {b = false} (λ h. absurd (f (eqb→eq m n (Is→T (eqb m n) h)))) refl
+
+module _ (l : List ℤ) (i : ℕ) where
+  abbrev here : ℕ
+  here = natAbs (getD l i (pos 0))
+
+  split : i < length l → atoms (drop i l) ≡ here ∷ atoms (drop (i + 1) l)
+  split h = ap atoms (drop-cons l i (pos 0) h) ∙ ap (λ (j : ℕ). here ∷ atoms (drop j l)) (sym (add-one i))
+
+  ended : length l ≤ i → atoms (drop i l) ≡ []
+  ended h = ap atoms (drop-of-length-le l h)
+
+  module _ (p : ℕ) where
+    has-cons : (q : ℕ) (s : List ℕ) → has p (q ∷ s) ≡ eqb p q || has p s
+    unfolding has
+    has-cons q s = refl
+
+    has-nil : has p [] ≡ false
+    unfolding has
+    has-nil = refl
+
+    pub has-here : i < length l → here ≡ p → has p (atoms (drop i l)) ≡ true
+    has-here h e = ap (has p) (split h) ∙ has-cons here (atoms (drop (i + 1) l)) ∙ ap (λ (b : Bool). b || has p (atoms (drop (i + 1) l))) (eqb-same p here (sym e))
+
+    pub has-on : i < length l → (here ≡ p → ⊥) → has p (atoms (drop i l)) ≡ has p (atoms (drop (i + 1) l))
+    has-on h n = ap (has p) (split h) ∙ has-cons here (atoms (drop (i + 1) l)) ∙ ap (λ (b : Bool). b || has p (atoms (drop (i + 1) l))) (eqb-not p here (λ e. n (sym e)))
+
+    pub has-end : length l ≤ i → has p (atoms (drop i l)) ≡ false
+    has-end h = ap (has p) (ended h) ∙ has-nil
+
+  abbrev pick : Bool → ℕ → Choice → Choice
+  pick b q c = elim b [ true ↦ choice.Atom q | false ↦ c ]
+
+  module _ (g : ℕ → Value) (v : Value) where
+    with-cons : (q : ℕ) (s : List ℕ) → firstWith g v (q ∷ s) ≡ pick (sameValue v (g q)) q (firstWith g v s)
+    unfolding firstWith
+    with-cons q s = refl
+
+    with-nil : firstWith g v [] ≡ choice.Nothing
+    unfolding firstWith
+    with-nil = refl
+
+    pub with-here : i < length l → sameValue v (g here) ≡ true → firstWith g v (atoms (drop i l)) ≡ choice.Atom here
+    with-here h e = ap (firstWith g v) (split h) ∙ with-cons here (atoms (drop (i + 1) l)) ∙ ap (λ (b : Bool). pick b here (firstWith g v (atoms (drop (i + 1) l)))) e
+
+    pub with-on : i < length l → sameValue v (g here) ≡ false → firstWith g v (atoms (drop i l)) ≡ firstWith g v (atoms (drop (i + 1) l))
+    with-on h e = ap (firstWith g v) (split h) ∙ with-cons here (atoms (drop (i + 1) l)) ∙ ap (λ (b : Bool). pick b here (firstWith g v (atoms (drop (i + 1) l)))) e
+
+    pub with-end : length l ≤ i → firstWith g v (atoms (drop i l)) ≡ choice.Nothing
+    with-end h = ap (firstWith g v) (ended h) ∙ with-nil
+
+  module _ (g : ℕ → Value) (p : ℕ) where
+    abbrev test : Bool
+    test = not (eqb here p) && saysTrue (g here)
+
+    other-cons : (q : ℕ) (s : List ℕ) → otherTrue g p (q ∷ s) ≡ pick (not (eqb q p) && saysTrue (g q)) q (otherTrue g p s)
+    unfolding otherTrue
+    other-cons q s = refl
+
+    other-nil : otherTrue g p [] ≡ choice.Nothing
+    unfolding otherTrue
+    other-nil = refl
+
+    pub other-here : i < length l → test ≡ true → otherTrue g p (atoms (drop i l)) ≡ choice.Atom here
+    other-here h e = ap (otherTrue g p) (split h) ∙ other-cons here (atoms (drop (i + 1) l)) ∙ ap (λ (b : Bool). pick b here (otherTrue g p (atoms (drop (i + 1) l)))) e
+
+    pub other-on : i < length l → test ≡ false → otherTrue g p (atoms (drop i l)) ≡ otherTrue g p (atoms (drop (i + 1) l))
+    other-on h e = ap (otherTrue g p) (split h) ∙ other-cons here (atoms (drop (i + 1) l)) ∙ ap (λ (b : Bool). pick b here (otherTrue g p (atoms (drop (i + 1) l)))) e
+
+    pub other-end : length l ≤ i → otherTrue g p (atoms (drop i l)) ≡ choice.Nothing
+    other-end h = ap (otherTrue g p) (ended h) ∙ other-nil

@@ -1,0 +1,6 @@
+-- What the proofs of several functions share. Assumes nothing.
+pub mod Scanning
+pub mod Numbers
+pub mod Runs
+pub mod Reading
+pub mod Callers
