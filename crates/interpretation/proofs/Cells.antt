@@ -46,4 +46,3 @@ undone-defined m c v l e = cases (cellCase c)
     cases : (c ≡ undefined) ⊎ ((w : Bool) × (k : ℕ) × (c ≡ defined w k)) → (c ≡ defined v l) × (l < m)
     cases (inl u) = absurd (not-defined (undone-undefined m c u) e)
     cases (inr (w, k, f)) = at w k f (ltCase k m)
-

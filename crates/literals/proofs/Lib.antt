@@ -4,4 +4,4 @@ pub mod Scans
 pub mod Together
 mod Walks
 mod Pairs
-mod Aggregates
+mod Amounts

@@ -1,4 +1,4 @@
--- How the code finds the value of an aggregate from its pairs of value and atom in one walk. Definitions only; they need not be believed: `proofs/Aggregates.antt` shows that
+-- How the code finds the value of an aggregate from its pairs of value and atom in one walk. Definitions only; they need not be believed: `proofs/Amounts.antt` shows that
 -- they give crate `valuing`'s `aggregateValue`.
 --   limitOf z        the threshold plus 1 as a natural number, 0 for -1;  passesBy: one value against it
 --   totalsOf         count or sum over the true elements, and over those that could be true
@@ -22,8 +22,8 @@ use Rattle.interpretation.specs.declared.Value.the-variants.{True, False, Undef
 use Rattle.valuing.specs.Values.{lowestOf, highestOf, between, decide}
 use Rattle.literals.specs.Scan.{oneMore}
 use Rattle.literals.specs.declared.Scan.{Scan}
-use Rattle.literals.specs.declared.Totals.{Totals}
-use Rattle.literals.specs.declared.Marks.{Marks}
+use Rattle.literals.specs.declared.aggregates.Totals.{Totals}
+use Rattle.literals.specs.declared.aggregates.Marks.{Marks}
 
 -- what was found before, with the literal at i, which is not false
 abbrev pub countedBy : Value → ℕ → Scan → Scan

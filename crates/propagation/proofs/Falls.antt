@@ -1,13 +1,12 @@
 -- Setting an undefined atom of 1 .. n leaves fewer of them undefined.
 -- Assumes nothing.
-use Prim.Native.Nat.{ℕ, zero, suc, _≤_, _<_}
+use Prim.Native.Nat.{ℕ, zero, suc, _<_}
 use native.Mathlib.Omega.{arith}
 use mathlib.Core.Path.{_≡_, refl, sym, ap, _∙_}
 use mathlib.Core.Logic.{_⊎_, inl, inr, _≢_}
-use mathlib.Core.Bool.{Bool, true, false}
+use mathlib.Core.Bool.{Bool, true}
 use Rattle.meaning.specs.Lists.{Is}
 use Rattle.meaning.specs.Program.{In}
-use Rattle.meaning.specs.Cond.{ifEq}
 use Rattle.meaning.proofs.Cond.{ifEq-yes, ifEq-no, eqCase}
 use Rattle.meaning.proofs.Tools.{clash, number, number-lt}
 use Rattle.interpretation.specs.State.{Cell, undefined, defined, put}

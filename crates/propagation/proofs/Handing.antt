@@ -1,18 +1,16 @@
 -- From the passes' last working state to what propagation hands back. Assumes nothing.
 use Prim.Native.Nat.{ℕ, suc}
-use mathlib.Core.Path.{_≡_, refl, sym, ap, _∙_, subst}
+use mathlib.Core.Path.{_≡_, sym, ap, subst}
 use mathlib.Core.Bool.{Bool, false}
 use mathlib.Core.List.{List}
 use lib.IntN.{ℤ}
 use Rattle.levels.specs.View.{row, rows}
-use Rattle.interpretation.specs.State.{Cell}
 use Rattle.interpretation.specs.View.{view, cells}
 use Rattle.interpretation.specs.declared.Interpretation.{Interpretation}
 use Rattle.layout.specs.declared.Table.{Table}
 use Rattle.layout.specs.Layout.{programOf}
-use Rattle.outcome.specs.declared.Passed.{Passed}
 use Rattle.outcome.specs.declared.Outcome.{Outcome}
-use Rattle.steps.specs.Steps.{Verdict, Work, passes, propagate}
+use Rattle.steps.specs.Steps.{Work, passes, propagate}
 use Rattle.propagation.specs.Propagation.{work, verdictBy, Handed}
 use Rattle.propagation.proofs.Stepped.{Kept, kept-cells}
 

@@ -1,17 +1,15 @@
--- How the rules of a table, a pass and the passes go on by one; after a conflict nothing is done; and a pass that changed something has left fewer
--- atoms undefined.
+-- How the rules of a table, a pass and the passes go on by one; and after a conflict nothing is done.
 -- Assumes nothing.
 use Prim.Native.Nat.{ℕ, zero, suc, _+_, _-_, _≤_, _<_}
 use native.Mathlib.Omega.{arith}
-use mathlib.Core.Path.{_≡_, refl, sym, ap, _∙_, subst}
-use mathlib.Core.Bool.{Bool, true, false, cond}
+use mathlib.Core.Path.{_≡_, refl, ap, _∙_, subst}
+use mathlib.Core.Bool.{cond}
 use mathlib.Core.List.{List, [], _∷_}
 use lib.IntN.{ℤ}
 use Rattle.meaning.specs.Program.{Rule, Program}
-use Rattle.meaning.proofs.Tools.{number}
 use Rattle.levels.specs.Levels.{Levels}
 use Rattle.layout.specs.Layout.{ruleAt, rulesFrom, pastRule, RuleLies, RulesLie}
-use Rattle.steps.specs.Steps.{Verdict, settled, conflict, Work, ifSettled, stepABC, countOf, isU, bodyLits, headLits, holdsNow, stepRule, stepDE, support, stepAtom, rulePass, atomPass, unchanged, pass, passes}
+use Rattle.steps.specs.Steps.{Verdict, conflict, Work, ifSettled, stepABC, countOf, isU, bodyLits, headLits, holdsNow, stepRule, stepDE, support, stepAtom, rulePass, atomPass, pass, passes}
 
 -- ---- rules
 

@@ -1,7 +1,7 @@
 -- Where one rule alone supports a true atom and step e is asked for, there is an atom that it sets. Assumes nothing.
 use Prim.Native.Nat.{ℕ}
 use native.Mathlib.Omega.{arith}
-use mathlib.Core.Path.{_≡_, refl, sym, ap, _∙_, subst}
+use mathlib.Core.Path.{_≡_, refl, sym, ap, _∙_}
 use mathlib.Core.Bool.{Bool}
 use mathlib.Core.List.{List}
 use lib.IntN.{ℤ}
@@ -12,7 +12,6 @@ use Rattle.interpretation.specs.declared.Value.{Value}
 use Rattle.interpretation.specs.declared.Value.the-variants.{True, False, Undefined}
 use Rattle.layout.specs.declared.Table.{Table}
 use Rattle.layout.specs.Layout.{pastRule, ruleAt}
-use Rattle.support.specs.declared.Ask.{Ask}
 use Rattle.support.specs.declared.Ask.the-variants.{Nothing, Sole}
 use Rattle.support.specs.declared.Next.{Next}
 use Rattle.support.specs.declared.Next.the-variants as next

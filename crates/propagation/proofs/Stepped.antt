@@ -3,7 +3,7 @@
 --   Kept s x      x has the level and the choices of s
 --   Stepped       the step at hand came to this interpretation, these reasons and this flag
 -- Assumes nothing.
-use Prim.Native.Nat.{ℕ, suc, _-_, _≤_, _<_}
+use Prim.Native.Nat.{ℕ, _-_, _≤_, _<_}
 use native.Mathlib.Omega.{arith}
 use mathlib.Core.Path.{_≡_, refl, sym, ap, _∙_, subst}
 use mathlib.Core.Bool.{Bool, true, false}
@@ -12,12 +12,12 @@ use mathlib.Core.List.{List, _++_}
 use lib.IntN.{ℤ}
 use lib.ListN.{length, set, length-set}
 use Rattle.meaning.specs.Cond.{ifEq}
-use Rattle.meaning.specs.Program.{Rule, Program, In, RuleIn}
+use Rattle.meaning.specs.Program.{Rule}
 use Rattle.levels.specs.Levels.{Levels, union}
 use Rattle.levels.specs.View.{row, rows}
 use Rattle.levels.proofs.Laws.{rows-set}
 use Rattle.interpretation.specs.State as state
-use Rattle.interpretation.specs.State.{Cell, undefined, defined, setAt, withCells}
+use Rattle.interpretation.specs.State.{Cell, setAt, withCells}
 use Rattle.interpretation.specs.View.{view, cells, valued}
 use Rattle.interpretation.specs.declared.Interpretation.{Interpretation}
 use Rattle.layout.specs.declared.Table.{Table}
@@ -75,9 +75,6 @@ moved {it} {w} {x} {x′} {rs} {rs′} {b} {b′} e f g s =
     (subst (λ (r : List (List ℕ)). Stepped it w x′ r b) (sym f) (subst (λ (m : Bool). Stepped it w x′ rs′ m) (sym g) s))
 
 module _ (it : Interpretation) (reasons : List (List ℕ)) (b : Bool) where
-  cell : ℕ → Cell
-  cell = cells (it .values) (it .records)
-
   -- ---- steps a to c
 
   module _ (r : Rule) where

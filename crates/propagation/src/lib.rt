@@ -17,6 +17,23 @@ use rules::Step;
 use support::Ask;
 use support::Next;
 
+// The reason of atom p with those of the witnesses of the rules that do not support it: step d's at a conflict, and step e's.
+pub fn whole_reason(
+    t: &[i32],
+    tb: Table,
+    p: usize,
+    values: &[u8; 256],
+    reasons: &[[u64; 4]; 256],
+) -> [u64; 4]
+    requires { ⌜ Laid (now t) tb × (1 ≤ p) × (p ≤ tb .atoms) ⌝ }
+    ensures { λ r. ⌜ row r ≡ union (rows (now (reasons .entry)) p) (blameOf (valued (now (values .entry))) (rows (now (reasons .entry))) p (programOf (now (t .entry)) tb)) ⌝ }
+{
+    let others = support::blame(t, tb, p, values, reasons);
+    let i = p - 1;
+    let own = reasons[i];
+    levels::union(own, others)
+}
+
 // Step e at the rule that begins at `at`: its undefined head atoms become false, then its positive atoms true, then its negated atoms false,
 // all with the reason `why`.
 pub fn force(
@@ -45,4 +62,73 @@ pub fn force(
             }
         }
     }
+}
+
+// Passes until one changes nothing or a conflict ends it.
+pub fn propagate(t: &[i32], tb: Table, it0: Interpretation, rows0: [[u64; 4]; 256]) -> Passed
+    requires { ⌜ Laid (now t) tb ⌝ }
+    ensures { λ r. ⌜ Handed (now (t .entry)) tb it0 rows0 r ⌝ }
+{
+    let mut it = it0;
+    let mut reasons = rows0;
+    let mut why = levels::empty();
+    let n = tb.atoms;
+    let out = 'passes: loop {
+        let mut changed = false;
+        let mut at = tb.first;
+        let mut left = tb.rules;
+        while 0 < left {
+            let s = rules::demand(t, tb, at, &it.values);
+            match s {
+                Step::Nothing => {}
+                Step::Conflict => {
+                    let reason = rules::reason(t, tb, at, &it.values, &reasons);
+                    why = reason;
+                    break 'passes Outcome::Conflict;
+                }
+                Step::Set(q, v) => {
+                    let reason = rules::reason(t, tb, at, &it.values, &reasons);
+                    let i = q - 1;
+                    reasons[i] = reason;
+                    it = it.set(q, v);
+                    changed = true;
+                }
+            }
+            at = rules::past_rule(t, at);
+            left -= 1;
+        }
+        let mut p: usize = 1;
+        while p <= n {
+            let a = support::asked(t, tb, p, &it.values);
+            match a {
+                Ask::Nothing => {}
+                Ask::Conflict => {
+                    let whole = whole_reason(t, tb, p, &it.values, &reasons);
+                    why = whole;
+                    break 'passes Outcome::Conflict;
+                }
+                Ask::Unset => {
+                    let others = support::blame(t, tb, p, &it.values, &reasons);
+                    let i = p - 1;
+                    reasons[i] = others;
+                    it = it.set(p, false);
+                    changed = true; // figure 2 of source 001 forgets this one
+                }
+                Ask::Sole(place) => {
+                    let whole = whole_reason(t, tb, p, &it.values, &reasons);
+                    let f = force(t, tb, place, whole, it, reasons);
+                    let next = outcome::rows_of(f);
+                    reasons = next;
+                    let state = f.it;
+                    it = state;
+                    changed = true;
+                }
+            }
+            p += 1;
+        }
+        if !changed {
+            break 'passes Outcome::Settled;
+        }
+    };
+    outcome::pack(it, reasons, why, out)
 }

@@ -135,6 +135,16 @@ ask-is : (t : List ℤ) (tb : Table) (a : ℕ → Cell) (p : ℕ) → askOf t tb
 unfolding askOf
 ask-is t tb a p = refl
 
+pub ask-by : (t : List ℤ) (tb : Table) (a : ℕ → Cell) (p : ℕ) (v : Value) (x : Place) → cellValue (a p) ≡ v → firstRule (supportsOf a p) t (tb .first) (tb .rules) ≡ x
+    → askOf t tb a p ≡ askBy (supportsOf a p) (forcedOf a) t v x
+ask-by t tb a p v x e h =
+    ask-is t tb a p ∙ ap (λ (u : Value). askBy (supportsOf a p) (forcedOf a) t u (firstRule (supportsOf a p) t (tb .first) (tb .rules))) e
+    ∙ ap (askBy (supportsOf a p) (forcedOf a) t v) h
+
+pub sole-nothing : (i : ℕ) (y : Place) → soleBy i y next.Nothing ≡ Nothing
+sole-nothing i (At j m) = refl
+sole-nothing i Nowhere = refl
+
 sole-not-unset : (i : ℕ) (y : Place) (n : Next) → soleBy i y n ≡ Unset → ⊥
 sole-not-unset i (At j m) n e = let z : _≡_ {A = ℕ} 0 1 = cc in omega arith
 sole-not-unset i Nowhere (next.Set q v) e = let z : _≡_ {A = ℕ} 0 1 = cc in omega arith

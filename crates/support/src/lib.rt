@@ -1,13 +1,17 @@
 // Steps d and e at one atom (01, "Propagation" and "Reasons and jumps"), read from the table's words under the values of a partial interpretation:
 // whether rules support the atom, what follows, and why. Meaning: `specs/Asking.antt`; laws for callers' proofs: `proofs/Atom.antt`,
 // `proofs/Forcing.antt`. Nothing here writes.
+mod atoms;
+
 ghost use mathlib.Core.Path.{_≡_};
 ghost use Prim.Native.Nat.{_≤_, _<_};
 ghost use lib.ListN.{length};
-ghost use Rattle.meaning.specs.Lists.{has};
+ghost use Rattle.levels.specs.View.{row, rows};
 ghost use Rattle.interpretation.specs.View.{valued};
-ghost use Rattle.layout.specs.Layout.{Laid, Members, RuleLies, atoms, aggsAt, pastRule, ruleAt};
-ghost use Rattle.support.specs.Asking.{valuesOf, sameValue, firstWith, otherTrue, forcedOf};
+ghost use Rattle.layout.specs.Layout.{Laid, Members, RuleLies, RulesLie, aggsAt, pastRule, ruleAt, programOf};
+ghost use Rattle.valuing.specs.Reasons.{reasonOf};
+ghost use Rattle.literals.specs.Scan.{literalLits, scanOf};
+ghost use Rattle.support.specs.Asking.{witnessOf, supportsOf, refutedBy, bodyWitness, witnessAt, firstRule, forcedOf, soleBy, askOf, blamedBy, blameOf};
 use interpretation::Choice;
 use interpretation::Value;
 use layout::Table;
@@ -41,76 +45,6 @@ pub enum Place {
     At(usize, usize),
 }
 
-// Whether two values are the same.
-pub fn same_value(v: Value, w: Value) -> bool
-    ensures { λ r. ⌜ r ≡ sameValue v w ⌝ }
-{
-    match v {
-        Value::True => match w {
-            Value::True => true,
-            Value::False => false,
-            Value::Undefined => false,
-        },
-        Value::False => match w {
-            Value::True => false,
-            Value::False => true,
-            Value::Undefined => false,
-        },
-        Value::Undefined => match w {
-            Value::True => false,
-            Value::False => false,
-            Value::Undefined => true,
-        },
-    }
-}
-
-// Whether an atom is in a list.
-pub fn has_atom(l: &[i32], p: usize) -> bool
-    ensures { λ r. ⌜ r ≡ has p (atoms (now (l .entry))) ⌝ }
-{
-    let mut i: usize = 0;
-    while i < l.len() {
-        if words::atom(l, i) == p {
-            return true;
-        }
-        i += 1;
-    }
-    false
-}
-
-// The first atom of a list with a value.
-pub fn first_with(l: &[i32], v: Value, values: &[u8; 256]) -> Choice
-    requires { ⌜ Members 256 (now l) ⌝ }
-    ensures { λ r. ⌜ r ≡ firstWith (valuesOf (valued (now (values .entry)))) v (atoms (now (l .entry))) ⌝ }
-{
-    let mut i: usize = 0;
-    while i < l.len() {
-        let q = words::atom(l, i);
-        if same_value(v, interpretation::value_of(values, q)) {
-            return Choice::Atom(q);
-        }
-        i += 1;
-    }
-    Choice::Nothing
-}
-
-// The first true atom of a list other than p.
-pub fn other_true(l: &[i32], p: usize, values: &[u8; 256]) -> Choice
-    requires { ⌜ Members 256 (now l) ⌝ }
-    ensures { λ r. ⌜ r ≡ otherTrue (valuesOf (valued (now (values .entry)))) p (atoms (now (l .entry))) ⌝ }
-{
-    let mut i: usize = 0;
-    while i < l.len() {
-        let q = words::atom(l, i);
-        let holds = same_value(Value::True, interpretation::value_of(values, q));
-        if (q != p) & holds {
-            return Choice::Atom(q);
-        }
-        i += 1;
-    }
-    Choice::Nothing
-}
-
 // Where the aggregate literals of the rule at `at` stand.
 pub fn literals_at(t: &[i32], at: usize) -> usize
     requires { ⌜ aggsAt (now t) at ≤ length (now t) ⌝ }
@@ -137,18 +71,203 @@ pub fn forced(t: &[i32], tb: Table, at: usize, values: &[u8; 256]) -> Next
     ensures { λ r. ⌜ r ≡ forcedOf (valued (now (values .entry))) (ruleAt (now (t .entry)) at) ⌝ }
 {
     let head = layout::part(t, at);
-    if let Choice::Atom(q) = first_with(head, Value::Undefined, values) {
+    if let Choice::Atom(q) = atoms::first_with(head, Value::Undefined, values) {
         return Next::Set(q, false);
     }
     let second = layout::past(t, at);
     let plain = layout::part(t, second);
-    if let Choice::Atom(q) = first_with(plain, Value::Undefined, values) {
+    if let Choice::Atom(q) = atoms::first_with(plain, Value::Undefined, values) {
         return Next::Set(q, true);
     }
     let third = layout::past(t, second);
     let negated = layout::part(t, third);
-    if let Choice::Atom(q) = first_with(negated, Value::Undefined, values) {
+    if let Choice::Atom(q) = atoms::first_with(negated, Value::Undefined, values) {
         return Next::Set(q, false);
     }
     Next::Nothing
+}
+
+// The first false aggregate literal of a list, as a witness.
+pub fn false_literal(t: &[i32], tb: Table, l: &[i32], values: &[u8; 256]) -> Witness
+    requires { ⌜ Laid (now t) tb × Members (tb .aggregates) (now l) ⌝ }
+    ensures { λ r. ⌜ r ≡ refutedBy (scanOf (valued (now (values .entry))) (literalLits (now (t .entry)) (now (l .entry)))) ⌝ }
+{
+    let s = literals::scan_literals(t, tb, l, values);
+    match s {
+        Scan::Refuted(k) => Witness::Literal(k),
+        Scan::Whole => Witness::Nobody,
+        Scan::One(_) => Witness::Nobody,
+        Scan::More => Witness::Nobody,
+    }
+}
+
+// The first false body literal of the rule at `at`, in table order: positive, negated, aggregate literals.
+pub fn body_witness(t: &[i32], tb: Table, at: usize, values: &[u8; 256]) -> Witness
+    requires { ⌜ Laid (now t) tb × RuleLies (tb .atoms) (tb .aggregates) (now t) at ⌝ }
+    ensures { λ r. ⌜ r ≡ bodyWitness (valued (now (values .entry))) (now (t .entry)) at ⌝ }
+{
+    let second = layout::past(t, at);
+    let plain = layout::part(t, second);
+    if let Choice::Atom(q) = atoms::first_with(plain, Value::False, values) {
+        return Witness::Atom(q);
+    }
+    let third = layout::past(t, second);
+    let negated = layout::part(t, third);
+    if let Choice::Atom(q) = atoms::first_with(negated, Value::True, values) {
+        return Witness::Atom(q);
+    }
+    let fourth = layout::past(t, third);
+    let aggregates = layout::part(t, fourth);
+    false_literal(t, tb, aggregates, values)
+}
+
+// The witness of the rule at `at`, if it fails to support p: "its first other true head atom, or else its first false body literal".
+pub fn witness_of(t: &[i32], tb: Table, at: usize, p: usize, values: &[u8; 256]) -> Witness
+    requires { ⌜ Laid (now t) tb × RuleLies (tb .atoms) (tb .aggregates) (now t) at ⌝ }
+    ensures { λ r. ⌜ r ≡ witnessAt (valued (now (values .entry))) (now (t .entry)) p at ⌝ }
+{
+    let head = layout::part(t, at);
+    if let Choice::Atom(q) = atoms::other_true(head, p, values) {
+        return Witness::Atom(q);
+    }
+    body_witness(t, tb, at, values)
+}
+
+// Whether the rule at `at` supports p.
+pub fn supports(t: &[i32], tb: Table, at: usize, p: usize, values: &[u8; 256]) -> bool
+    requires { ⌜ Laid (now t) tb × RuleLies (tb .atoms) (tb .aggregates) (now t) at ⌝ }
+    ensures { λ r. ⌜ r ≡ supportsOf (valued (now (values .entry))) p (ruleAt (now (t .entry)) at) ⌝ }
+{
+    let head = layout::part(t, at);
+    if atoms::has_atom(head, p) {
+        let w = witness_of(t, tb, at, p, values);
+        return match w {
+            Witness::Nobody => true,
+            Witness::Atom(_) => false,
+            Witness::Literal(_) => false,
+        };
+    }
+    false
+}
+
+// The first of `count` rules from index `from` on that supports p. The walk over the rules stands here and in `blame` alone.
+pub fn first_support(
+    t: &[i32],
+    tb: Table,
+    from: usize,
+    count: usize,
+    p: usize,
+    values: &[u8; 256],
+) -> Place
+    requires { ⌜ Laid (now t) tb × RulesLie (tb .atoms) (tb .aggregates) (now t) from count ⌝ }
+    ensures { λ r. ⌜ r ≡ firstRule (supportsOf (valued (now (values .entry))) p) (now (t .entry)) from count ⌝ }
+{
+    let mut at = from;
+    let mut left = count;
+    while 0 < left {
+        left -= 1;
+        if supports(t, tb, at, p, values) {
+            return Place::At(at, left);
+        }
+        let next = past_rule(t, at);
+        at = next;
+    }
+    Place::Nowhere
+}
+
+// What step e asks where the rule at `at` supports p and no rule before it does, with `left` rules after it.
+pub fn sole(t: &[i32], tb: Table, at: usize, left: usize, p: usize, values: &[u8; 256]) -> Ask
+    requires { ⌜ Laid (now t) tb × RuleLies (tb .atoms) (tb .aggregates) (now t) at × RulesLie (tb .atoms) (tb .aggregates) (now t) (pastRule (now t) at) left ⌝ }
+    ensures { λ r. ⌜ r ≡ soleBy at (firstRule (supportsOf (valued (now (values .entry))) p) (now (t .entry)) (pastRule (now (t .entry)) at) left) (forcedOf (valued (now (values .entry))) (ruleAt (now (t .entry)) at)) ⌝ }
+{
+    let f = forced(t, tb, at, values);
+    match f {
+        Next::Nothing => Ask::Nothing,
+        Next::Set(_, _) => {
+            let next = past_rule(t, at);
+            let s = first_support(t, tb, next, left, p, values);
+            match s {
+                Place::Nowhere => Ask::Sole(at),
+                Place::At(_, _) => Ask::Nothing,
+            }
+        }
+    }
+}
+
+// What steps d and e ask at atom p.
+pub fn asked(t: &[i32], tb: Table, p: usize, values: &[u8; 256]) -> Ask
+    requires { ⌜ Laid (now t) tb × (1 ≤ p) × (p ≤ tb .atoms) ⌝ }
+    ensures { λ r. ⌜ r ≡ askOf (now (t .entry)) tb (valued (now (values .entry))) p ⌝ }
+{
+    let v = interpretation::value_of(values, p);
+    match v {
+        Value::False => Ask::Nothing,
+        Value::Undefined => {
+            let s = first_support(t, tb, tb.first, tb.rules, p, values);
+            match s {
+                Place::Nowhere => Ask::Unset,
+                Place::At(_, _) => Ask::Nothing,
+            }
+        }
+        Value::True => {
+            let s = first_support(t, tb, tb.first, tb.rules, p, values);
+            match s {
+                Place::Nowhere => Ask::Conflict,
+                Place::At(at, left) => sole(t, tb, at, left, p, values),
+            }
+        }
+    }
+}
+
+// The share of the rule at `at` in the blame of p, joined to a set: its witness's reason, if p is in its head.
+pub fn blamed(
+    t: &[i32],
+    tb: Table,
+    at: usize,
+    p: usize,
+    values: &[u8; 256],
+    reasons: &[[u64; 4]; 256],
+    more: [u64; 4],
+) -> [u64; 4]
+    requires { ⌜ Laid (now t) tb × RuleLies (tb .atoms) (tb .aggregates) (now t) at ⌝ }
+    ensures { λ r. ⌜ row r ≡ blamedBy (witnessOf (valued (now (values .entry))) p) (reasonOf (valued (now (values .entry))) (rows (now (reasons .entry)))) p (ruleAt (now (t .entry)) at) (row more) ⌝ }
+{
+    let head = layout::part(t, at);
+    if atoms::has_atom(head, p) {
+        let w = witness_of(t, tb, at, p, values);
+        return match w {
+            Witness::Nobody => more,
+            Witness::Atom(q) => literals::atom_reason(q, values, reasons, more),
+            Witness::Literal(k) => {
+                let place = literals_at(t, at);
+                let l = layout::part(t, place);
+                literals::literal_reason(t, tb, l, k, values, reasons, more)
+            }
+        };
+    }
+    more
+}
+
+// "the union of the witnesses' reasons over all rules with p in the head"
+pub fn blame(
+    t: &[i32],
+    tb: Table,
+    p: usize,
+    values: &[u8; 256],
+    reasons: &[[u64; 4]; 256],
+) -> [u64; 4]
+    requires { ⌜ Laid (now t) tb ⌝ }
+    ensures { λ r. ⌜ row r ≡ blameOf (valued (now (values .entry))) (rows (now (reasons .entry))) p (programOf (now (t .entry)) tb) ⌝ }
+{
+    let mut acc = levels::empty();
+    let mut at = tb.first;
+    let mut left = tb.rules;
+    while 0 < left {
+        left -= 1;
+        let more = blamed(t, tb, at, p, values, reasons, acc);
+        acc = more;
+        let next = past_rule(t, at);
+        at = next;
+    }
+    acc
 }

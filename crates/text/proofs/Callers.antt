@@ -1,11 +1,10 @@
 -- What a caller of `read` may rely on: there is room for every text's words, what the buffer then holds, and that result and buffer are
 -- determined by the text and the old buffer. Assumes nothing.
-use mathlib.Core.Path.{_≡_, refl, sym, ap, _∙_, subst}
+use mathlib.Core.Path.{_≡_, refl, sym, ap, _∙_}
 use mathlib.Core.Bool.{Bool, true, false}
 use mathlib.Core.List.{List, [], _∷_, _++_}
-use mathlib.Core.Logic.{⊎-elim}
 use mathlib.Core.Option.{Option, some, none}
-use Prim.Native.Nat.{ℕ, zero, suc, _+_, _*_, _<_, _≤_}
+use Prim.Native.Nat.{ℕ, suc, _+_, _*_, _<_, _≤_}
 use native.Mathlib.Nat.{le-of-suc-le-suc}
 use native.Mathlib.Omega.{arith}
 use borrow.Author.Tests.{ltb-true, ltb-false}
@@ -15,7 +14,7 @@ use lib.ListN.{length, take, drop, length-append}
 use Rattle.results.specs.declared.Refusal.{Refusal}
 use Rattle.text.specs.declared.reader.Reading.{Reading}
 use Rattle.text.specs.declared.reader.Reading.the-variants as reading
-use Rattle.text.specs.Text.{parting, ended, runsFrom, runs, limit, word, Words, all, badAt, before, wordsFrom, Text, text, refused, withLimit, withWords, textOfRuns, textOf, over, readingOf, wordsLeft, ReadAs}
+use Rattle.text.specs.Text.{parting, ended, runsFrom, runs, limit, word, Words, all, badAt, wordsFrom, Text, text, refused, withLimit, withWords, textOfRuns, textOf, over, readingOf, wordsLeft, ReadAs}
 use Rattle.text.proofs.Scanning.{runs-parted, runs-longer, runs-none}
 use Rattle.text.proofs.Reading.{words-good, words-bad, words-none, is-all, text-long, text-short}
 
@@ -97,6 +96,7 @@ over-long (z ∷ zs) (o ∷ old) = ap suc (over-long zs old)
 pub record Front (bs : List ℕ) (l n : ℕ) (old new : List ℤ) : Type 0 where
   pub said : textOf bs ≡ text l (take n new)
   pub few : n < 32768
+  pub room : n ≤ length new
   pub rest : drop n new ≡ drop n old
   pub long : length (take n new) ≡ n
 
@@ -113,7 +113,8 @@ front-of bs old new l n zs h e f g =
     let k = words-few bs l zs e in
     let t : take n new ≡ zs = rw (g, ← f) (over-front zs old (omega arith)) in
     let d : drop n new ≡ drop n old = rw (g, ← f) (over-rest zs old) in
-    record { said = rw t e; few = omega arith; rest = d; long = ap length t ∙ f }
+    let m : length new ≡ length old = ap length g ∙ over-long zs old in
+    record { said = rw t e; few = omega arith; room = omega arith; rest = d; long = ap length t ∙ f }
 
 pub read-front : (bs : List ℕ) (old new : List ℤ) (l n : ℕ) → length old ≡ 32768 → ReadAs bs old (reading.Read l n) new → Front bs l n old new
 read-front bs old new l n h a =
@@ -129,3 +130,11 @@ read-refused bs old new r a =
 
 pub read-unique : (bs : List ℕ) (old : List ℤ) (r s : Reading) (new other : List ℤ) → ReadAs bs old r new → ReadAs bs old s other → (r ≡ s) × (new ≡ other)
 read-unique bs old r s new other a b = (a .result ∙ sym (b .result), a .words ∙ sym (b .words))
+
+-- the buffer keeps its length
+left-long : (t : Text) (old : List ℤ) → length (wordsLeft t old) ≡ length old
+left-long (text l zs) old = over-long zs old
+left-long (refused r) old = refl
+
+pub read-long : (bs : List ℕ) (old new : List ℤ) (r : Reading) → ReadAs bs old r new → length new ≡ length old
+read-long bs old new r a = ap length (a .words) ∙ left-long (textOf bs) old

@@ -4,3 +4,6 @@ pub mod Numbers
 pub mod Runs
 pub mod Reading
 pub mod Callers
+pub mod Putting
+pub mod Decimal
+pub mod Lines

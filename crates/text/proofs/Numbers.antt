@@ -1,5 +1,5 @@
 -- The number that a run writes, from digits whose value is held at 2 to the 32; and a signed word as the machine holds it. Assumes nothing.
-use mathlib.Core.Path.{_≡_, refl, sym, ap, _∙_, subst}
+use mathlib.Core.Path.{_≡_, refl, ap}
 use mathlib.Core.Bool.{Bool, true, false, _&&_}
 use mathlib.Core.List.{List, [], _∷_}
 use mathlib.Core.Option.{Option, some, none}
@@ -8,13 +8,11 @@ use native.Mathlib.Numerals.{add-one}
 use native.Mathlib.Omega.{arith}
 use borrow.Author.Tests.{le-leb, lt-leb}
 use lib.Dec.{eqb, leb}
-use lib.IntN.{ℤ, pos, negsuc, negℤ, _-ℤ_, +ℤ-idl}
+use lib.IntN.{ℤ, pos, negℤ, _-ℤ_, +ℤ-idl}
 use lib.ListN.{length, getD, drop, drop-of-length-le}
 use lib.Seq.{drop-cons}
 use mir.Syntax.{w32, w64}
-use mir.Val.{SFits, toZ, ofZ}
-use mir.ValLaws.{toZ-ofZ}
-use Rattle.text.specs.declared.number.Digits.{Digits}
+use mir.Val.{SFits}
 use Rattle.text.specs.declared.number.Digits.the-variants.{Value, Bad}
 use Rattle.text.specs.Text.{digit, digitsFrom, digits, plain, negative, number, unsigned32, signed32, limit, word, pick}
 use Rattle.text.specs.Scan.{capped}

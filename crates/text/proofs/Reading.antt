@@ -1,27 +1,23 @@
 -- The words of runs, as the reader counts and writes them. Assumes nothing.
-use mathlib.Core.Path.{_≡_, refl, sym, ap, _∙_, subst}
-use mathlib.Core.Bool.{Bool, true, false}
-use mathlib.Core.List.{List, [], _∷_, _++_}
+use mathlib.Core.Path.{_≡_, refl, sym, ap, _∙_}
+use mathlib.Core.List.{List, [], _∷_}
 use mathlib.Core.Logic.{⊎-elim}
 use native.Mathlib.Nat.{eq-or-lt-of-le}
 use mathlib.Core.Option.{Option, some, none}
-use Prim.Native.Nat.{ℕ, zero, suc, _+_, _-_, _*_, _<_, _≤_}
+use Prim.Native.Nat.{ℕ, suc, _+_, _-_, _<_, _≤_}
 use native.Mathlib.Numerals.{add-one}
 use native.Mathlib.Omega.{arith}
 use borrow.Author.Tests.{lt-ltb, le-ltb}
 use lib.IntN.{ℤ}
 use lib.ListN.{length, take, drop, set}
 use lib.Seq.{sets}
-use Rattle.text.specs.declared.number.Limit.{Limit}
 use Rattle.text.specs.declared.number.Limit.the-variants as limits
-use Rattle.text.specs.declared.number.Word.{Word}
 use Rattle.text.specs.declared.number.Word.the-variants as words
-use Rattle.text.specs.declared.reader.Count.{Count}
 use Rattle.text.specs.declared.reader.Count.the-variants as count
 use Rattle.text.specs.declared.reader.Reading.the-variants as reading
 use Rattle.results.specs.declared.Refusal.{Refusal}
-use Rattle.results.specs.declared.Refusal.the-variants.{BadNumber, TooManyBytes}
-use Rattle.text.specs.Text.{runs, number, limit, word, Words, all, badAt, before, wordsFrom, Text, text, refused, withLimit, withWords, textOfRuns, textOf, over, ReadAs}
+use Rattle.results.specs.declared.Refusal.the-variants.{TooManyBytes}
+use Rattle.text.specs.Text.{runs, number, limit, word, Words, all, badAt, before, wordsFrom, text, refused, withLimit, textOfRuns, textOf, over, ReadAs}
 use Rattle.text.specs.Scan.{spanned, limitIn, wordIn, countOf, listed}
 use Rattle.text.proofs.Runs.{Starts, run-first, runs-end, span-end-run}
 

@@ -1,13 +1,13 @@
 -- The runs of a text one by one, as the reader's loops meet them: where a run starts, what it is, and where the next one starts.
 -- Assumes nothing.
-use mathlib.Core.Path.{_≡_, refl, sym, ap, _∙_, subst}
+use mathlib.Core.Path.{_≡_, refl, sym, ap, _∙_}
 use mathlib.Core.Bool.{Bool, true, false}
-use mathlib.Core.List.{List, [], _∷_, _++_}
-use Prim.Native.Nat.{ℕ, zero, suc, _+_, _-_, _*_, _<_, _≤_}
+use mathlib.Core.List.{List, [], _∷_}
+use Prim.Native.Nat.{ℕ, suc, _+_, _-_, _<_, _≤_}
 use native.Mathlib.Omega.{arith}
 use lib.ListN.{length, getD, take, drop, length-drop, drop-of-length-le}
 use lib.Seq.{drop-cons, drop-drop, getD-drop, length-take-le}
-use Rattle.text.specs.Text.{parting, runsFrom, runs, ended}
+use Rattle.text.specs.Text.{parting, runs, ended}
 use Rattle.text.specs.Scan.{skipped, spanned}
 use Rattle.text.proofs.Scanning.{skipped-yes, spanned-yes, spanned-no, spanned-none, skipped-le, spanned-le, runs-skipped, skipped-stops, runs-spanned, runs-none}
 

@@ -1,13 +1,12 @@
 -- Where runs begin and end: the laws of `skipped` and `spanned`, and the runs of a text one by one. Assumes nothing.
-use mathlib.Core.Path.{_≡_, refl, sym, ap, _∙_, subst}
+use mathlib.Core.Path.{_≡_, refl, sym, ap, _∙_}
 use mathlib.Core.Bool.{Bool, true, false}
 use mathlib.Core.List.{List, [], _∷_, _++_, append-assoc, append-nil}
-use Prim.Native.Nat.{ℕ, zero, suc, _+_, _-_, _<_, _≤_}
+use Prim.Native.Nat.{ℕ, suc, _+_, _<_, _≤_}
 use native.Mathlib.Numerals.{add-one}
-use native.Mathlib.Nat.{add-zero}
 use native.Mathlib.Omega.{arith}
-use lib.ListN.{length, getD, take, drop, length-drop, drop-of-length-le}
-use lib.Seq.{drop-cons, drop-drop, getD-drop}
+use lib.ListN.{length, getD, take, drop, drop-of-length-le}
+use lib.Seq.{drop-cons}
 use Rattle.text.specs.Text.{parting, runsFrom, runs, ended}
 use Rattle.text.specs.Scan.{skipped, spanned}
 
@@ -79,10 +78,6 @@ pub span-end : (bs : List ℕ) (i : ℕ) → length bs ≤ i → i ≡ i + spann
 span-end bs i h = rw (drop-of-length-le bs h, spanned-none) (omega arith)
 
 -- ---- on lists
-
-by-bool : (b : Bool) (P : Bool → Type 0) → (b ≡ true → P true) → (b ≡ false → P false) → P b
-by-bool true P f g = f refl
-by-bool false P f g = g refl
 
 pub skipped-le : (bs : List ℕ) → skipped bs ≤ length bs
 skipped-le [] = rw skipped-none (omega arith)

@@ -16,8 +16,8 @@ use Rattle.literals.proofs.literal_value.Statement.{statement}
 use Rattle.literals.proofs.literal_value.Tie as tie
 use Rattle.literals.proofs.literal_value.Reads as reads
 use Rattle.literals.proofs.literal_value.Lts as lts
-use Rattle.literals.proofs.aggregate_value.Reads as aggregate-value-reads
-use Rattle.literals.proofs.plain.Reads as plain-reads
+use Rattle.literals.proofs.aggregates.aggregate_value.Reads as aggregate-value-reads
+use Rattle.literals.proofs.aggregates.plain.Reads as plain-reads
 use Rattle.literals.proofs.signed.Reads as signed-reads
 use Rattle.literals.proofs.start.Reads as start-reads
 

@@ -22,10 +22,10 @@ use Rattle.literals.proofs.literal_value.Reads as literal-value-reads
 use Rattle.literals.proofs.refutes.Reads as refutes-reads
 
 abbrev Inv-loop : tie.InvT-loop
-Inv-loop t tb l values so₀ i₀ so i = (i ≤ length l) × (scanFrom (valued values) i so (literalLits t (drop i l)) ≡ scanOf (valued values) (literalLits t l))
+Inv-loop t tb l values so₀ k₀ so k = (k ≤ length l) × (scanFrom (valued values) k so (literalLits t (drop k l)) ≡ scanOf (valued values) (literalLits t l))
 
 abbrev μ-loop : tie.MeasureT-loop
-μ-loop t tb l values so₀ i₀ so i = length l - i
+μ-loop t tb l values so₀ k₀ so k = length l - k
 
 loop-holds : tie.Need-loop-holds Inv-loop μ-loop
 loop-holds c = (omega arith, refl)
@@ -40,15 +40,15 @@ returns : tie.Need-returns Inv-loop μ-loop
 returns c =
     let b = c .before .before .before .before in
     let a = b .before .args in
-    sym (walk-false (literalOf (a .t .now)) aggLit (valued (a .values .now)) (a .l .now) (b .loop .i) (b .loop .so) (c .before .before .before .loop-test .taken) _ (c .before .before .literal-value .ensures)
+    sym (walk-false (literalOf (a .t .now)) aggLit (valued (a .values .now)) (a .l .now) (b .loop .k) (b .loop .so) (c .before .before .before .loop-test .taken) _ (c .before .before .literal-value .ensures)
     (sym (c .before .refutes .ensures) ∙ c .if1 .taken))
     ∙ b .loop .inv .1
 
 counted-requires : tie.Need-counted-requires Inv-loop μ-loop
 counted-requires c κs = search needs
 
-add-i : tie.Need-add-i Inv-loop μ-loop
-add-i c = omega arith
+add-k : tie.Need-add-k Inv-loop μ-loop
+add-k c = omega arith
 
 loop-less : tie.Need-loop-less Inv-loop μ-loop
 loop-less c = omega arith
@@ -60,8 +60,8 @@ loop-again c =
     let a = b .before .args in
     let X = valued (a .values .now) in (
       omega arith,
-      ap (λ (so : Scan). scanFrom X (b .loop .i + 1) so (literalLits (a .t .now) (drop (b .loop .i + 1) (a .l .now)))) (c .counted .ensures)
-          ∙ sym (walk-on (literalOf (a .t .now)) aggLit X (a .l .now) (b .loop .i) (b .loop .so) (e .before .before .before .loop-test .taken) _ (e .before .before .literal-value .ensures)
+      ap (λ (so : Scan). scanFrom X (b .loop .k + 1) so (literalLits (a .t .now) (drop (b .loop .k + 1) (a .l .now)))) (c .counted .ensures)
+          ∙ sym (walk-on (literalOf (a .t .now)) aggLit X (a .l .now) (b .loop .k) (b .loop .so) (e .before .before .before .loop-test .taken) _ (e .before .before .literal-value .ensures)
           (sym (e .before .refutes .ensures) ∙ e .if1 .left))
           ∙ b .loop .inv .1,
     )
@@ -70,7 +70,7 @@ returns-2 : tie.Need-returns-2 Inv-loop μ-loop
 returns-2 c =
     let b = c .before in
     let a = b .before .args in
-    sym (walk-end (literalOf (a .t .now)) aggLit (valued (a .values .now)) (a .l .now) (b .loop .i) (b .loop .so) (c .loop-test .left)) ∙ b .loop .inv .1
+    sym (walk-end (literalOf (a .t .now)) aggLit (valued (a .values .now)) (a .l .now) (b .loop .k) (b .loop .so) (c .loop-test .left)) ∙ b .loop .inv .1
 
 pub scan-literals-spec : {M : Type 1} → statement M
 scan-literals-spec =
@@ -83,7 +83,7 @@ scan-literals-spec =
     refutes-requires
     returns
     counted-requires
-    add-i
+    add-k
     loop-less
     loop-again
     returns-2)

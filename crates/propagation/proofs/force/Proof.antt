@@ -2,30 +2,25 @@
 -- level and choices stay. The measure is the number of undefined atoms.
 -- Assumes nothing.
 use borrow.Author.Needs.{needs}
-use Prim.Native.Nat.{ℕ, _-_, _≤_, _<_}
+use Prim.Native.Nat.{_≤_}
 use native.Mathlib.Omega.{arith}
 use mathlib.Core.Path.{_≡_, refl, sym, ap, _∙_, subst}
-use mathlib.Core.Bool.{Bool, true, false}
+use mathlib.Core.Bool.{true}
 use mathlib.Core.Option.{some}
-use mathlib.Core.List.{List, []}
-use lib.ListN.{length, getD, set, length-set}
-use Rattle.meaning.specs.Program.{Rule, In, RuleIn}
+use lib.ListN.{length, set, length-set}
+use Rattle.meaning.specs.Program.{In}
 use Rattle.meaning.proofs.Tools.{number}
-use Rattle.levels.specs.Levels.{Levels}
-use Rattle.levels.specs.View.{row, rows}
+use Rattle.levels.specs.View.{row}
 use Rattle.interpretation.specs.State as state
-use Rattle.interpretation.specs.State.{Cell, undefined, defined, put, setAt, withCells}
-use Rattle.interpretation.specs.View.{view, cells, valued}
+use Rattle.interpretation.specs.State.{undefined}
+use Rattle.interpretation.specs.View.{view, cells}
 use Rattle.interpretation.specs.declared.Interpretation.{Interpretation}
-use Rattle.layout.specs.Layout.{ruleAt, RuleLies, Laid}
+use Rattle.layout.specs.Layout.{ruleAt}
 use Rattle.layout.proofs.Inside.{rule-in}
-use Rattle.steps.specs.Steps.{Work, stepE}
+use Rattle.steps.specs.Steps.{stepE}
 use Rattle.steps.proofs.Ending.{missing}
-use Rattle.support.specs.declared.Next.the-variants as next
 use Rattle.support.specs.Asking.{forcedOf}
 use Rattle.support.proofs.Forcing.{forced-alone, forced-open, forced-set, forced-nothing}
-use Rattle.outcome.specs.declared.Passed.{Passed}
-use Rattle.outcome.specs.declared.Outcome.the-variants.{Settled}
 use Rattle.propagation.specs.Propagation.{work, Forced}
 use Rattle.propagation.proofs.Falls.{set-fewer}
 use Rattle.propagation.proofs.Stepped.{Kept, kept-set, kept-cells, stored}

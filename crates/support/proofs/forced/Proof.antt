@@ -16,7 +16,7 @@ use Rattle.support.proofs.forced.Reads as reads
 use Rattle.support.proofs.forced.Lts as lts
 use Rattle.layout.proofs.part.Reads as part-reads
 use Rattle.layout.proofs.past.Reads as past-reads
-use Rattle.support.proofs.first_with.Reads as first-with-reads
+use Rattle.support.proofs.atoms.first_with.Reads as first-with-reads
 
 -- src/lib.rt:139:9
 part-requires : tie.Need-part-requires

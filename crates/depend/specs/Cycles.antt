@@ -1,0 +1,69 @@
+-- Refusals 8 and 9 (01, "What comes back"): "8 head cycle: lowest such rule, from 1", "9 aggregate cycle: lowest rule with such an arc"; 8 comes
+-- before 9. Definitions only. The tests of a rule, `headCycle` and `aggregateCycle`, are `meaning`'s; `proofs/Exact.antt` shows that `cycleOf` says
+-- exactly what `HeadCycle` and `AggregateCycle` mean.
+--   crossed X l        two different atoms of the list l each of which X relates to the other
+--   returned X ps ls   X relates an element of one of the aggregate literals ls to one of the atoms ps
+--   lowest f k P       the first rule of P that passes f, rules being numbered from k on
+--   cycleOf n P        the refusal of a program over atoms 1 .. n, or nothing
+--   ruleOf P k         rule k, from 1;  Lowest: rule k is the lowest of the program with a property
+-- Assumes nothing.
+use mathlib.Core.Bool.{Bool, true, false, not, _&&_}
+use mathlib.Core.List.{List, [], _∷_}
+use Prim.Native.Nat.{ℕ, suc, _-_, _≤_, _<_}
+use lib.Dec.{eqb}
+use lib.ListN.{length, getD}
+use Rattle.meaning.specs.Lists.{any}
+use Rattle.meaning.specs.Program.{Element, Literal, Rule, Program}
+use Rattle.meaning.specs.Cycles.{headCycle, aggregateCycle}
+use Rattle.results.specs.declared.Refusal.the-variants as refusal
+use Rattle.depend.specs.declared.Place.{Place}
+use Rattle.depend.specs.declared.Place.the-variants.{Nowhere, At}
+use Rattle.depend.specs.declared.Cycle.{Cycle}
+use Rattle.depend.specs.declared.Cycle.the-variants.{Nothing, Refused}
+
+module _ (X : ℕ → ℕ → Bool) where
+  -- p and q are different, and each reaches the other
+  abbrev pub crossing : ℕ → ℕ → Bool
+  crossing p q = not (eqb p q) && X p q && X q p
+
+  abbrev pub crossed : List ℕ → Bool
+  crossed l = any (λ p. any (λ q. crossing p q) l) l
+
+  abbrev pub returning : ℕ → List Element → Bool
+  returning p es = any (λ e. X (e .atom) p) es
+
+  abbrev pub returned : List ℕ → List Literal → Bool
+  returned ps ls = any (λ p. any (λ l. returning p (l .aggregate .elements)) ls) ps
+
+abbrev pub orLater : Bool → Place → Place → Place
+orLater true p q = p
+orLater false p q = q
+
+unfoldable pub lowest : (Rule → Bool) → ℕ → Program → Place
+lowest f k [] = Nowhere
+lowest f k (r ∷ P) = orLater (f r) (At k) (lowest f (suc k) P)
+
+abbrev pub ninth : Place → Cycle
+ninth Nowhere = Nothing
+ninth (At k) = Refused (refusal.AggregateCycle k)
+
+abbrev pub eighth : Place → Cycle → Cycle
+eighth Nowhere c = c
+eighth (At k) c = Refused (refusal.HeadCycle k)
+
+unfoldable pub cycleOf : ℕ → Program → Cycle
+cycleOf n P = eighth (lowest (headCycle (suc n) P) 1 P) (ninth (lowest (aggregateCycle (suc n) P) 1 P))
+
+-- ---- what "lowest rule" means
+
+abbrev pub noRule : Rule
+noRule = record { head = []; pos = []; neg = []; aggs = [] }
+
+abbrev pub ruleOf : Program → ℕ → Rule
+ruleOf P k = getD P (k - 1) noRule
+
+pub record Lowest (Test : Rule → Type 0) (P : Program) (k : ℕ) : Type 0 where
+  pub from : 1 ≤ k
+  pub upto : k ≤ length P
+  pub here : Test (ruleOf P k)
+  pub before : (j : ℕ) → 1 ≤ j → j < k → Test (ruleOf P j) → ⊥

@@ -1,0 +1,7 @@
+-- The laws, in reading order.
+pub mod Words
+pub mod Decided
+pub mod Adding
+pub mod Reading
+pub mod Walks
+pub mod Rules

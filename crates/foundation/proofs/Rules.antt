@@ -1,0 +1,88 @@
+-- The rules of a table one after the other, as the loops take them.
+-- Assumes nothing.
+use Prim.Native.Nat.{ℕ, zero, suc, _-_, _≤_, _<_}
+use native.Mathlib.Omega.{arith}
+use mathlib.Core.Path.{_≡_, refl, sym, ap, subst, _∙_}
+use mathlib.Core.Bool.{Bool, true, false, not, _&&_}
+use mathlib.Core.List.{List, [], _∷_}
+use lib.IntN.{ℤ}
+use Rattle.meaning.specs.Lists.{Is, all}
+use Rattle.meaning.specs.Aggregates.{Atoms}
+use Rattle.meaning.specs.Program.{Program, In}
+use Rattle.meaning.specs.Answers.{holds, model}
+use Rattle.interpretation.specs.State.{Cell, trueAtoms, AllDefined}
+use Rattle.layout.specs.declared.Table.{Table}
+use Rattle.layout.specs.Layout.{pastRule, ruleAt, rulesFrom, RuleLies, RulesLie, Laid}
+use Rattle.layout.proofs.Inside.{rule-in}
+use Rattle.rules.specs.Demand.{demandOf, isConflict}
+use Rattle.foundation.specs.declared.Adds.the-variants.{Atom}
+use Rattle.foundation.specs.Walk.{addsOf, Marks, mark, walk}
+use Rattle.foundation.proofs.Decided.{holds-decided}
+use Rattle.foundation.proofs.Adding.{adds-head}
+use Rattle.foundation.proofs.Walks.{walk-nil, walk-cons}
+
+module _ (top most : ℕ) (t : List ℤ) (i : ℕ) where
+  abbrev Parts : ℕ → Type 0
+  Parts n = RuleLies top most t i × RulesLie top most t (pastRule t i) n
+
+  lies-suc : (n : ℕ) → RulesLie top most t i (suc n) → Parts n
+  unfolding RulesLie
+  lies-suc n l = l
+
+  -- the first of n rules lies there, and so do the others
+  pub lies-on : (n : ℕ) → 0 < n → RulesLie top most t i n → Parts (n - 1)
+  lies-on n h l = let e : n ≡ suc (n - 1) = omega arith in lies-suc (n - 1) (subst (RulesLie top most t i) e l)
+
+module _ (t : List ℤ) (i : ℕ) where
+  rules-suc : (n : ℕ) → rulesFrom t i (suc n) ≡ ruleAt t i ∷ rulesFrom t (pastRule t i) n
+  unfolding rulesFrom
+  rules-suc n = refl
+
+  pub rules-on : (n : ℕ) → 0 < n → rulesFrom t i n ≡ ruleAt t i ∷ rulesFrom t (pastRule t i) (n - 1)
+  rules-on n h = let e : n ≡ suc (n - 1) = omega arith in ap (rulesFrom t i) e ∙ rules-suc (n - 1)
+
+  rules-zero : rulesFrom t i 0 ≡ []
+  unfolding rulesFrom
+  rules-zero = refl
+
+  pub rules-none : (n : ℕ) → n ≤ 0 → rulesFrom t i n ≡ []
+  rules-none n h = let e : n ≡ 0 = omega arith in ap (rulesFrom t i) e ∙ rules-zero
+
+  -- ---- a walk
+
+  pub walk-on : (a : ℕ → Cell) (n : ℕ) → 0 < n → (w : Marks) → walk a (rulesFrom t i n) w ≡ walk a (rulesFrom t (pastRule t i) (n - 1)) (mark (addsOf a (w .atoms) (ruleAt t i)) w)
+  walk-on a n h w = ap (λ (P : Program). walk a P w) (rules-on n h) ∙ walk-cons a (ruleAt t i) (rulesFrom t (pastRule t i) (n - 1)) w
+
+  pub walk-none : (a : ℕ → Cell) (n : ℕ) → n ≤ 0 → (w : Marks) → walk a (rulesFrom t i n) w ≡ w
+  walk-none a n h w = ap (λ (P : Program). walk a P w) (rules-none n h) ∙ walk-nil a w
+
+  -- ---- a model
+
+  model-cons : (Y : Atoms) (n : ℕ) → 0 < n → model (rulesFrom t i n) Y ≡ (holds Y (ruleAt t i) && model (rulesFrom t (pastRule t i) (n - 1)) Y)
+  unfolding model
+  model-cons Y n h = ap (all (holds Y)) (rules-on n h)
+
+  pub model-none : (Y : Atoms) (n : ℕ) → n ≤ 0 → model (rulesFrom t i n) Y ≡ true
+  unfolding model
+  model-none Y n h = ap (all (holds Y)) (rules-none n h)
+
+  module _ (tb : Table) (laid : Laid t tb) (a : ℕ → Cell) (D : AllDefined (tb .atoms) a) (l : RuleLies (tb .atoms) (tb .aggregates) t i) (n : ℕ) (h : 0 < n) where
+    rule-holds : (b : Bool) → isConflict (demandOf a (ruleAt t i)) ≡ b → holds (trueAtoms (tb .atoms) a) (ruleAt t i) ≡ not b
+    rule-holds b e = holds-decided (tb .atoms) a D (ruleAt t i) (rule-in t tb laid i l) ∙ ap not e
+
+    pub model-fails : isConflict (demandOf a (ruleAt t i)) ≡ true → model (rulesFrom t i n) (trueAtoms (tb .atoms) a) ≡ false
+    model-fails e =
+        model-cons (trueAtoms (tb .atoms) a) n h
+        ∙ ap (λ (b : Bool). b && model (rulesFrom t (pastRule t i) (n - 1)) (trueAtoms (tb .atoms) a)) (rule-holds true e)
+
+    pub model-on : isConflict (demandOf a (ruleAt t i)) ≡ false → model (rulesFrom t i n) (trueAtoms (tb .atoms) a) ≡ model (rulesFrom t (pastRule t i) (n - 1)) (trueAtoms (tb .atoms) a)
+    model-on e =
+        model-cons (trueAtoms (tb .atoms) a) n h
+        ∙ ap (λ (b : Bool). b && model (rulesFrom t (pastRule t i) (n - 1)) (trueAtoms (tb .atoms) a)) (rule-holds false e)
+
+-- an atom that a rule of the table adds is one of 1 .. 256
+pub adds-range : (t : List ℤ) (tb : Table) → Laid t tb → (i : ℕ) → RuleLies (tb .atoms) (tb .aggregates) t i → (a : ℕ → Cell) (G : Atoms) (p : ℕ) → addsOf a G (ruleAt t i) ≡ Atom p → In 256 p
+adds-range t tb laid i l a G p e =
+    let j = rule-in t tb laid i l .heads p (adds-head a G (ruleAt t i) p e) in
+    let f = laid .fewAtoms in
+    (j .0, omega (arith, j .1))

@@ -1,0 +1,4 @@
+-- What the proofs of several functions share. Assumes nothing.
+pub mod Ordered
+pub mod Turns
+pub mod Plans

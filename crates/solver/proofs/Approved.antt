@@ -1,0 +1,139 @@
+-- The promise of `approve`: for a refused table, and for an accepted one by the offered bytes, the model test and the foundedness test. Assumes nothing.
+use mathlib.Core.Path.{_≡_, refl, sym, _∙_, ap, subst}
+use mathlib.Core.Logic.{_⊎_, inl, inr, _↔_}
+use mathlib.Core.Bool.{Bool, true, false}
+use mathlib.Core.List.{List}
+use Prim.Native.Nat.{ℕ, zero, suc, _≤_, _<_}
+use native.Mathlib.Omega.{arith}
+use lib.Dec.{eqb}
+use lib.IntN.{ℤ}
+use lib.ListN.{length, getD}
+use Rattle.meaning.specs.Lists.{Is}
+use Rattle.meaning.specs.Program.{Program, In, AtomsIn, Below}
+use Rattle.meaning.specs.Aggregates.{Atoms}
+use Rattle.meaning.specs.Answers.{model, AnswerSet}
+use Rattle.meaning.specs.Dependency.{HeadCycle, AggregateCycle, Free}
+use Rattle.meaning.specs.Foundedness.{founded}
+use Rattle.meaning.proofs.Tools.{clash}
+use Rattle.meaning.proofs.Cond.{ltCase, ifLt-no}
+use Rattle.meaning.proofs.Theorem.{founded↔answer}
+use Rattle.meaning.proofs.Tested.{founded-test}
+use Rattle.results.specs.declared.Refusal.{Refusal}
+use Rattle.results.specs.declared.Refusal.the-variants as refusal
+use Rattle.results.specs.declared.Checked.{Checked}
+use Rattle.results.specs.declared.Checked.the-variants as checked
+use Rattle.table.specs.Contents.{Contents, program}
+use Rattle.solver.specs.Refusals.{Accepted, Refused, Bit, BadByte}
+use Rattle.solver.specs.Approving.{planAtoms, CheckRefused, before, byte, Bits, Approving}
+use Rattle.solver.specs.Plans.{badFrom, checkedBy}
+use Rattle.solver.specs.declared.plans.Offer.{Offer}
+use Rattle.solver.specs.declared.plans.Offer.the-variants as offer
+use Rattle.solver.proofs.Refusals.{accepted-unique, refused-not-accepted, refused-unique}
+use Rattle.solver.proofs.Offered.{bad-byte, good-bits}
+
+-- ---- a plan's atoms are atoms of 1 to n
+
+pub plan-range : (n : ℕ) (plan : List ℕ) (p : ℕ) → Is (planAtoms n plan p) → In n p
+plan-range n plan zero h = absurd (clash h refl)
+plan-range n plan (suc i) h = at (ltCase i n)
+  where
+    at : (i < n) ⊎ (n ≤ i) → In n (suc i)
+    at (inl l) = (omega arith, l)
+    at (inr l) = absurd (clash h (ifLt-no i n (eqb (getD plan i 0) 1) false l))
+
+-- ---- model and founded: an answer set
+
+module _ (n : ℕ) (P : Program) (A : AtomsIn n P) (noHead : Free HeadCycle P) (noAggregate : Free AggregateCycle P) (X : Atoms) (range : (p : ℕ) → Is (X p) → In n p) where
+  below : Below (suc n) P
+  below r m p h = let i = A r m .heads p h in omega (arith, i .1)
+
+  pub tested-answer : Is (model P X) → Is (founded P n X) → AnswerSet P X
+  tested-answer m f = founded↔answer (suc n) P below noHead noAggregate X m .0 (founded-test P n X A range .0 f)
+
+  pub answer-tested : AnswerSet P X → Is (model P X) × Is (founded P n X)
+  answer-tested a = (a .isModel, founded-test P n X A range .1 (founded↔answer (suc n) P below noHead noAggregate X (a .isModel) .1 a))
+
+-- ---- refusals of the check
+
+same-refused : {r : Checked} {f g : Refusal} → r ≡ checked.Refused f → r ≡ checked.Refused g → f ≡ g
+same-refused e h = cc
+
+bad-unique : (n : ℕ) (plan : List ℕ) (i j : ℕ) → BadByte n plan i → BadByte n plan j → i ≡ j
+bad-unique n plan i j a b = at (ltCase i j) (ltCase j i)
+  where
+    at : (i < j) ⊎ (j ≤ i) → (j < i) ⊎ (i ≤ j) → i ≡ j
+    at (inl h) y = absurd (a .bad (b .before i h))
+    at (inr h) (inl l) = absurd (b .bad (a .before j l))
+    at (inr h) (inr l) = omega arith
+
+module _ (t : List ℤ) (plan : List ℕ) where
+  pub check-unique : (f g : Refusal) → CheckRefused t plan f → CheckRefused t plan g → f ≡ g
+  check-unique f g (before a) (before b) = refused-unique t (length plan) f g a b
+  check-unique f g (before a) (byte c b i h e) = absurd (refused-not-accepted t (length plan) f c a b)
+  check-unique f g (byte c a i h e) (before b) = absurd (refused-not-accepted t (length plan) g c b a)
+  check-unique f g (byte c a i h e) (byte d b j k w) =
+      e ∙ ap refusal.PlanByte (bad-unique (c .atoms) plan i j h (subst (λ (x : Contents). BadByte (x .atoms) plan j) (accepted-unique t (length plan) d c b a) k)) ∙ sym w
+
+  -- an accepted table whose bytes are good is not refused
+  pub good-not-refused : (c : Contents) → Accepted t (length plan) c → Bits (c .atoms) plan → (f : Refusal) → CheckRefused t plan f → ⊥
+  good-not-refused c a b f (before h) = refused-not-accepted t (length plan) f c h a
+  good-not-refused c a b f (byte d e i h w) = let k = subst (λ (x : Contents). BadByte (x .atoms) plan i) (accepted-unique t (length plan) d c e a) h in k .bad (b i (k .inside))
+
+  pub approving-refused : (r : Checked) (f : Refusal) → CheckRefused t plan f → r ≡ checked.Refused f → Approving t plan r
+  approving-refused r f h e = record {
+    refused = λ g. (λ i. subst (CheckRefused t plan) (same-refused e i) h, λ i. e ∙ ap checked.Refused (check-unique f g h i));
+    yes = λ c a b. absurd (good-not-refused c a b f h);
+    no = λ c a b. absurd (good-not-refused c a b f h);
+  }
+
+  module _ (c : Contents) (a : Accepted t (length plan) c) (A : AtomsIn (c .atoms) (program c)) where
+    abbrev Answers : Type 0
+    Answers = AnswerSet (program c) (planAtoms (c .atoms) plan)
+
+    -- yes exactly for an answer set, and no exactly else
+    pub record Judges (r : Checked) : Type 0 where
+      pub yes : (r ≡ checked.Yes) ↔ Answers
+      pub no : (r ≡ checked.No) ↔ (Answers → ⊥)
+      pub told : (f : Refusal) → r ≡ checked.Refused f → ⊥
+
+    tested : Is (model (program c) (planAtoms (c .atoms) plan)) → Is (founded (program c) (c .atoms) (planAtoms (c .atoms) plan)) → Answers
+    tested m f = tested-answer (c .atoms) (program c) A (a .noHead) (a .noAggregate) (planAtoms (c .atoms) plan) (plan-range (c .atoms) plan) m f
+
+    answers : Answers → Is (model (program c) (planAtoms (c .atoms) plan)) × Is (founded (program c) (c .atoms) (planAtoms (c .atoms) plan))
+    answers h = answer-tested (c .atoms) (program c) A (a .noHead) (a .noAggregate) (planAtoms (c .atoms) plan) (plan-range (c .atoms) plan) h
+
+    judges : (r : Checked) (m f : Bool) → model (program c) (planAtoms (c .atoms) plan) ≡ m → founded (program c) (c .atoms) (planAtoms (c .atoms) plan) ≡ f
+        → r ≡ checkedBy offer.Good m f → Judges r
+    judges r true true m f e = record {
+      yes = (λ i. tested m f, λ h. e);
+      no = (λ i. absurd (let z : _≡_ {A = ℕ} 0 1 = cc in omega arith), λ h. absurd (h (tested m f)));
+      told = λ g i. (let z : _≡_ {A = ℕ} 0 1 = cc in omega arith);
+    }
+    judges r true false m f e = record {
+      yes = (λ i. absurd (let z : _≡_ {A = ℕ} 0 1 = cc in omega arith), λ h. absurd (clash (answers h .1) f));
+      no = (λ i h. clash (answers h .1) f, λ h. e);
+      told = λ g i. (let z : _≡_ {A = ℕ} 0 1 = cc in omega arith);
+    }
+    judges r false f m g e = record {
+      yes = (λ i. absurd (let z : _≡_ {A = ℕ} 0 1 = cc in omega arith), λ h. absurd (clash (answers h .0) m));
+      no = (λ i h. clash (answers h .0) m, λ h. e);
+      told = λ g i. (let z : _≡_ {A = ℕ} 0 1 = cc in omega arith);
+    }
+
+    approves : (r : Checked) → Bits (c .atoms) plan → Judges r → Approving t plan r
+    approves r bits j = record {
+      refused = λ f. (λ i. absurd (j .told f i), λ h. absurd (good-not-refused c a bits f h));
+      yes = λ d b k. subst (λ (x : Contents). (r ≡ checked.Yes) ↔ AnswerSet (program x) (planAtoms (x .atoms) plan)) (accepted-unique t (length plan) c d a b) (j .yes);
+      no = λ d b k. subst (λ (x : Contents). (r ≡ checked.No) ↔ (AnswerSet (program x) (planAtoms (x .atoms) plan) → ⊥)) (accepted-unique t (length plan) c d a b) (j .no);
+    }
+
+    pub approving-accepted : (r : Checked)
+        → r ≡ checkedBy (badFrom plan 0 (c .atoms)) (model (program c) (planAtoms (c .atoms) plan)) (founded (program c) (c .atoms) (planAtoms (c .atoms) plan)) → Approving t plan r
+    approving-accepted r e = at (badFrom plan 0 (c .atoms)) refl
+      where
+        by : (o : Offer) → badFrom plan 0 (c .atoms) ≡ o → r ≡ checkedBy o (model (program c) (planAtoms (c .atoms) plan)) (founded (program c) (c .atoms) (planAtoms (c .atoms) plan))
+        by o i = e ∙ ap (λ (x : Offer). checkedBy x (model (program c) (planAtoms (c .atoms) plan)) (founded (program c) (c .atoms) (planAtoms (c .atoms) plan))) i
+
+        at : (o : Offer) → badFrom plan 0 (c .atoms) ≡ o → Approving t plan r
+        at (offer.Bad j) i = approving-refused r (refusal.PlanByte j) (byte c a j (bad-byte plan (c .atoms) j i) refl) (by (offer.Bad j) i)
+        at offer.Good i = approves r (good-bits plan (c .atoms) i) (judges r _ _ refl refl (by offer.Good i))

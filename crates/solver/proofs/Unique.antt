@@ -1,0 +1,74 @@
+-- Each promise has one answer only: two results, and two later buffers, that meet it for the same input are equal. Assumes nothing.
+--   solving-unique     of the whole promise of `solve`
+--   meaning-unique     of demand 2 alone, as far as the kind of the result and the plan go, short of the limit
+--   approving-unique   of the promise of `approve`
+use mathlib.Core.Path.{_≡_, refl, sym, _∙_, ap, subst}
+use mathlib.Core.Logic.{_≢_, _⊎_, inl, inr}
+use mathlib.Core.Option.{some}
+use mathlib.Core.List.{List}
+use Prim.Native.Nat.{ℕ}
+use native.Mathlib.Omega.{arith}
+use lib.IntN.{ℤ}
+use lib.ListN.{length}
+use Rattle.meaning.specs.Aggregates.{Atoms}
+use Rattle.meaning.specs.Answers.{AnswerSet}
+use Rattle.meaning.proofs.Cond.{some-inj}
+use Rattle.meaning.proofs.Order.{first-unique}
+use Rattle.results.specs.declared.Refusal.{Refusal}
+use Rattle.results.specs.declared.Solved.{Solved}
+use Rattle.results.specs.declared.Solved.the-variants as solved
+use Rattle.search.specs.Search.{Outcome}
+use Rattle.table.specs.Contents.{Contents, program}
+use Rattle.solver.specs.Refusals.{Accepted, Refused}
+use Rattle.solver.specs.Solving.{planWith, planAfter, solvedBy, Meaning, Searching, Solving}
+
+-- whether the table is refused, or accepted: `proofs/Judged.antt` shows that it is one of the two
+abbrev pub Decided : List ℤ → ℕ → Type 0
+Decided t room = ((f : Refusal) × Refused t room f) ⊎ ((c : Contents) × Accepted t room c)
+
+module _ (t : List ℤ) (lim : ℕ) (old : List ℕ) where
+  pub solving-unique-by : Decided t (length old) → (new new′ : List ℕ) (r r′ : Solved) → Solving t lim old new r → Solving t lim old new′ r′ → (r ≡ r′) × (new ≡ new′)
+  solving-unique-by (inl (f, h)) new new′ r r′ a b =
+      let e = a .refused f .1 h in
+      let i = b .refused f .1 h in
+      (e ∙ sym i, a .untouched f e ∙ sym (b .untouched f i))
+  solving-unique-by (inr (c, h)) new new′ r r′ a b =
+      let x = a .searching c h in
+      let y = b .searching c h in
+      let e : x .0 ≡ y .0 = some-inj (sym (x .2 .jumping) ∙ y .2 .jumping) in (
+        x .2 .result ∙ ap (λ (o : Outcome). solvedBy (o .result) (o .choices) (o .skips)) e ∙ sym (y .2 .result),
+        x .2 .plan ∙ ap (λ (o : Outcome). planAfter (c .atoms) (o .result) old) e ∙ sym (y .2 .plan),
+      )
+
+-- ---- from the meaning alone
+
+-- the kind of a result: answer, none, limit, refused
+abbrev pub kindOf : Solved → ℕ
+kindOf (solved.Answer k s) = 0
+kindOf (solved.Nothing k s) = 1
+kindOf (solved.Limit k s) = 2
+kindOf (solved.Refused f) = 3
+
+module _ (c : Contents) (lim : ℕ) (old : List ℕ) where
+  one-answer : (new new′ : List ℕ) (r r′ : Solved) → Meaning c lim old new r → Meaning c lim old new′ r′ → (k s k′ s′ : ℕ) → r ≡ solved.Answer k s → r′ ≡ solved.Answer k′ s′ → new ≡ new′
+  one-answer new new′ r r′ a b k s k′ s′ e i =
+      let x = a .answers k s e in
+      let y = b .answers k′ s′ i in
+      x .3 ∙ ap (λ (X : Atoms). planWith (c .atoms) X old) (first-unique (c .atoms) (AnswerSet (program c)) (x .0) (y .0) (x .1) (x .2) (y .1) (y .2)) ∙ sym (y .3)
+
+  -- where one says none, the other does not answer
+  none-against : (new new′ : List ℕ) (r r′ : Solved) → Meaning c lim old new r → Meaning c lim old new′ r′ → (k s k′ s′ : ℕ) → r ≡ solved.Answer k s → r′ ≡ solved.Nothing k′ s′ → ⊥
+  none-against new new′ r r′ a b k s k′ s′ e i = let x = a .answers k s e in b .none k′ s′ i .0 (x .0) (x .1)
+
+  pub meaning-unique : (new new′ : List ℕ) (r r′ : Solved) → Meaning c lim old new r → Meaning c lim old new′ r′ → ((k s : ℕ) → r ≢ solved.Limit k s) → ((k s : ℕ) → r′ ≢ solved.Limit k s)
+      → (kindOf r ≡ kindOf r′) × (new ≡ new′)
+  meaning-unique new new′ (solved.Answer k s) (solved.Answer k′ s′) a b n m = (refl, one-answer new new′ _ _ a b k s k′ s′ refl refl)
+  meaning-unique new new′ (solved.Answer k s) (solved.Nothing k′ s′) a b n m = absurd (none-against new new′ _ _ a b k s k′ s′ refl refl)
+  meaning-unique new new′ (solved.Nothing k s) (solved.Answer k′ s′) a b n m = absurd (none-against new′ new _ _ b a k′ s′ k s refl refl)
+  meaning-unique new new′ (solved.Nothing k s) (solved.Nothing k′ s′) a b n m = (refl, a .none k s refl .1 ∙ sym (b .none k′ s′ refl .1))
+  meaning-unique new new′ (solved.Limit k s) r′ a b n m = absurd (n k s refl)
+  meaning-unique new new′ (solved.Answer k s) (solved.Limit k′ s′) a b n m = absurd (m k′ s′ refl)
+  meaning-unique new new′ (solved.Nothing k s) (solved.Limit k′ s′) a b n m = absurd (m k′ s′ refl)
+  meaning-unique new new′ (solved.Refused f) r′ a b n m = absurd (a .taken f refl)
+  meaning-unique new new′ (solved.Answer k s) (solved.Refused f) a b n m = absurd (b .taken f refl)
+  meaning-unique new new′ (solved.Nothing k s) (solved.Refused f) a b n m = absurd (b .taken f refl)

@@ -1,0 +1,76 @@
+-- `solver::solve` meets its contract: the judge's refusal, or the report of the defined jumping search on the accepted table. Assumes nothing.
+use borrow.Author.Needs.{needs}
+use mathlib.Core.Path.{_≡_, refl, sym, ap, _∙_, subst}
+use mathlib.Core.List.{List}
+use Prim.Native.Nat.{ℕ, _≤_}
+use native.Mathlib.Omega.{arith}
+use lib.ListN.{length}
+use Rattle.meaning.specs.Program.{Program}
+use Rattle.results.specs.declared.Solved.the-variants as solved
+use Rattle.layout.specs.Layout.{programOf}
+use Rattle.table.specs.Contents.{Contents, program}
+use Rattle.table.proofs.Accepted.{accepted-atoms}
+use Rattle.search.specs.Search.{jump, solve}
+use Rattle.search.specs.Base.{base}
+use Rattle.jumping.specs.Jumping.{endOf}
+use Rattle.solver.specs.Refusals.{Accepted}
+use Rattle.solver.specs.Judging.{Placed}
+use Rattle.solver.specs.Solving.{planAfter}
+use Rattle.solver.proofs.Entry.{solving-refused, solving-accepted}
+use Rattle.solver.proofs.solve.Statement.{statement}
+use Rattle.solver.proofs.solve.Tie as tie
+
+judge-requires : tie.Need-judge-requires
+judge-requires c κs = search needs
+
+enum-known-fault : tie.Need-enum-known-fault
+enum-known-fault c = search needs
+
+enum-told : tie.Need-enum-told
+enum-told c = search needs
+
+-- what was accepted
+taken : (c : tie.After-tb) → let j = c .before .before .before in let a = j .before .before .args in
+    (d : Contents) × Accepted (a .words .now) (length (a .plan .now)) d × Placed (a .words .now) (j .judge .result .table) d
+taken c = let j = c .before .before .before in j .judge .ensures .accepted (c .before .enum-told .given .1)
+
+search-requires : tie.Need-search-requires
+search-requires c κs = taken c .2 .laid
+
+report-requires : tie.Need-report-requires
+report-requires c κs =
+    let x = taken (c .before .before) in
+    let f = x .2 .laid .fewAtoms in
+    let w = x .1 .plan in
+    (f, omega arith)
+
+returns : tie.Need-returns
+returns c =
+    let f = c .before .fault .given in
+    let j = c .before .before .before in
+    let a = j .before .before .args in
+    solving-refused (a .words .now) (a .limit) (a .plan .now) (a .plan .now) (solved.Refused (f .0 .0)) (f .0 .0) (j .judge .ensures .refused (f .0 .0) (f .1)) refl refl
+
+same-length : tie.Need-same-length
+same-length c = search needs
+
+returns-2 : tie.Need-returns-2
+returns-2 c =
+    let r = c .before .before in
+    let s = r .before .before in
+    let b = s .before in
+    let j = b .before .before .before in
+    let a = j .before .before .args in
+    let tb = j .judge .result .table in
+    let x = taken b in
+    let d = x .0 in
+    let p = x .2 in
+    let g = s .search .ensures in
+    let o = endOf (tb .atoms) (s .search .result) (g .0) in
+    let e : solve (base (program d) (d .atoms)) jump (a .limit) ≡ _ = ap (λ (P : Program). solve (base P (d .atoms)) jump (a .limit)) (sym (p .rules))
+    ∙ ap (λ (n : ℕ). solve (base (programOf (a .words .now) tb) n) jump (a .limit)) (sym (p .atoms)) ∙ g .1 in
+    solving-accepted (a .words .now) (a .limit) (a .plan .now) _ (r .report .result) d (x .1) (accepted-atoms (a .words .now) d (x .1 .holds)) o e (r .report .ensures .0)
+    (r .report .ensures .1 ∙ ap (λ (n : ℕ). planAfter n (o .result) (a .plan .now)) (p .atoms))
+
+pub solve-spec : {M : Type 1} → statement M
+solve-spec = tie.close (tie.spec judge-requires enum-known-fault enum-told search-requires report-requires returns same-length returns-2)

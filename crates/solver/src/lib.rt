@@ -1,0 +1,76 @@
+// The two entries of the base: `solve` and `approve` (01, "What comes back"). Neither asks anything of its caller. Meaning: `specs/`, one file for
+// the refusals, one for each entry; that each promise has one answer only: `proofs/Unique.antt`.
+ghost use mathlib.Core.Path.{_≡_};
+ghost use Prim.Native.Nat.{_≤_};
+ghost use lib.ListN.{length};
+ghost use Rattle.meaning.specs.Answers.{model};
+ghost use Rattle.meaning.specs.Foundedness.{founded};
+ghost use Rattle.layout.specs.Layout.{Laid, programOf};
+ghost use Rattle.solver.specs.Solving.{Solving};
+ghost use Rattle.solver.specs.Approving.{planAtoms, Approving};
+ghost use Rattle.solver.specs.Plans.{badFrom, checkedBy};
+use layout::Table;
+use plans::Offer;
+use results::Checked;
+use results::Refusal;
+use results::Solved;
+use table::Fault;
+
+mod judging;
+mod plans;
+
+// The night's plan: an answer, none or limit with the choices and the skips, or a refusal. Only an answer writes, and only the bytes of the
+// table's own atoms.
+pub fn solve(words: &[i32], limit: u32, plan: &mut [u8]) -> Solved
+    ensures { λ r. ⌜ Solving (now (words .entry)) limit (now (plan .entry)) (now (plan .exit)) r ⌝ }
+{
+    let room = plan.len();
+    let judged = judging::judge(words, room);
+    let fault = judged.fault;
+    match fault {
+        Fault::Refused(f) => Solved::Refused(f),
+        Fault::Nothing => {
+            let tb = judged.table;
+            let found = jumping::search(words, tb, limit);
+            let atoms = tb.atoms;
+            plans::report(found, atoms, plan)
+        }
+    }
+}
+
+// Whether an offered plan is an answer set of the table, or a refusal. It makes no search and never writes.
+pub fn approve(words: &[i32], plan: &[u8]) -> Checked
+    ensures { λ r. ⌜ Approving (now (words .entry)) (now (plan .entry)) r ⌝ }
+{
+    let room = plan.len();
+    let judged = judging::judge(words, room);
+    let fault = judged.fault;
+    match fault {
+        Fault::Refused(f) => Checked::Refused(f),
+        Fault::Nothing => {
+            let tb = judged.table;
+            check(words, tb, plan)
+        }
+    }
+}
+
+// The check of a plan offered for an accepted table: its bytes, then whether it is a model, then whether it is founded.
+fn check(words: &[i32], tb: Table, plan: &[u8]) -> Checked
+    requires { ⌜ Laid (now words) tb × (256 ≤ length (now plan)) ⌝ }
+    ensures { λ r. ⌜ r ≡ checkedBy (badFrom (now (plan .entry)) 0 (tb .atoms)) (model (programOf (now (words .entry)) tb) (planAtoms (tb .atoms) (now (plan .entry)))) (founded (programOf (now (words .entry)) tb) (tb .atoms) (planAtoms (tb .atoms) (now (plan .entry)))) ⌝ }
+{
+    let n = tb.atoms;
+    let offer = plans::first_bad(plan, n);
+    match offer {
+        Offer::Bad(i) => Checked::Refused(Refusal::PlanByte(i)),
+        Offer::Good => {
+            let values = plans::values_of(plan, n);
+            if foundation::is_model(words, tb, &values) {
+                if foundation::founded(words, tb, &values) {
+                    return Checked::Yes;
+                }
+            }
+            Checked::No
+        }
+    }
+}
