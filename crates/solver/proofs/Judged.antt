@@ -24,7 +24,10 @@ use Rattle.depend.specs.declared.Cycle.the-variants as cycle
 use Rattle.depend.proofs.Exact.{refused-8, refused-9, not-refused, cycle-cases}
 use Rattle.solver.specs.Refusals.{Accepted, Refused, words, plan, table, head, aggregate}
 use Rattle.solver.specs.Judging.{Placed, Judged}
-use Rattle.solver.proofs.Unique.{Decided}
+
+-- the table is refused, or accepted
+abbrev pub Decided : List ℤ → ℕ → Type 0
+Decided t room = ((f : Refusal) × Refused t room f) ⊎ ((c : Contents) × Accepted t room c)
 
 same-fault : {x : Fault} {f g : Refusal} → x ≡ fault.Refused f → x ≡ fault.Refused g → f ≡ g
 same-fault e i = cc

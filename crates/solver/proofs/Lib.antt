@@ -1,9 +1,9 @@
--- What is proved of the public functions. Assumes nothing.
+-- What is proved of the public functions. `Unique` is the last word: each promise has one answer only. Assumes nothing.
 pub mod Refusals
 pub mod Solved
-pub mod Bytes
 pub mod Entry
-pub mod Unique
+pub mod Bytes
 pub mod Judged
 pub mod Offered
 pub mod Approved
+pub mod Unique

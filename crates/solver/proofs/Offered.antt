@@ -87,6 +87,13 @@ pub good-bits : (plan : List ℕ) (n : ℕ) → badFrom plan 0 n ≡ offer.Good 
 unfolding Says
 good-bits plan n e = subst (Says plan n) e (says plan n)
 
+pub bad-or-good : (plan : List ℕ) (n : ℕ) → ((i : ℕ) × BadByte n plan i) ⊎ Bits n plan
+bad-or-good plan n = at (badFrom plan 0 n) refl
+  where
+    at : (o : Offer) → badFrom plan 0 n ≡ o → ((i : ℕ) × BadByte n plan i) ⊎ Bits n plan
+    at (offer.Bad i) e = inl (i, bad-byte plan n i e)
+    at offer.Good e = inr (good-bits plan n e)
+
 -- ---- the values of a plan
 
 module _ (n : ℕ) (plan vs : List ℕ) (h : (j : ℕ) → j < n → getD vs j 0 ≡ byteOf (eqb (getD plan j 0) 1)) where

@@ -4,6 +4,7 @@
 --   approving-unique   of the promise of `approve`
 use mathlib.Core.Path.{_≡_, refl, sym, _∙_, ap, subst}
 use mathlib.Core.Logic.{_≢_, _⊎_, inl, inr}
+use mathlib.Core.Bool.{Bool, true, false}
 use mathlib.Core.Option.{some}
 use mathlib.Core.List.{List}
 use Prim.Native.Nat.{ℕ}
@@ -11,34 +12,43 @@ use native.Mathlib.Omega.{arith}
 use lib.IntN.{ℤ}
 use lib.ListN.{length}
 use Rattle.meaning.specs.Aggregates.{Atoms}
-use Rattle.meaning.specs.Answers.{AnswerSet}
+use Rattle.meaning.specs.Answers.{model, AnswerSet}
+use Rattle.meaning.specs.Foundedness.{founded}
+use Rattle.meaning.proofs.Tools.{clash}
 use Rattle.meaning.proofs.Cond.{some-inj}
 use Rattle.meaning.proofs.Order.{first-unique}
 use Rattle.results.specs.declared.Refusal.{Refusal}
+use Rattle.results.specs.declared.Refusal.the-variants as refusal
+use Rattle.results.specs.declared.Checked.{Checked}
 use Rattle.results.specs.declared.Solved.{Solved}
 use Rattle.results.specs.declared.Solved.the-variants as solved
 use Rattle.search.specs.Search.{Outcome}
 use Rattle.table.specs.Contents.{Contents, program}
 use Rattle.solver.specs.Refusals.{Accepted, Refused}
+use Rattle.solver.specs.Refusals.{BadByte}
+use Rattle.solver.specs.Approving.{planAtoms, CheckRefused, before, byte, Bits, Approving}
+use Rattle.solver.proofs.Judged.{Decided, decided}
+use Rattle.solver.proofs.Offered.{bad-or-good}
+use Rattle.solver.proofs.Approved.{plan-range, tested-answer, answer-tested}
+use Rattle.table.proofs.Accepted.{accepted-atoms}
 use Rattle.solver.specs.Solving.{planWith, planAfter, solvedBy, Meaning, Searching, Solving}
 
--- whether the table is refused, or accepted: `proofs/Judged.antt` shows that it is one of the two
-abbrev pub Decided : List ℤ → ℕ → Type 0
-Decided t room = ((f : Refusal) × Refused t room f) ⊎ ((c : Contents) × Accepted t room c)
-
 module _ (t : List ℤ) (lim : ℕ) (old : List ℕ) where
-  pub solving-unique-by : Decided t (length old) → (new new′ : List ℕ) (r r′ : Solved) → Solving t lim old new r → Solving t lim old new′ r′ → (r ≡ r′) × (new ≡ new′)
-  solving-unique-by (inl (f, h)) new new′ r r′ a b =
+  unique-by : Decided t (length old) → (new new′ : List ℕ) (r r′ : Solved) → Solving t lim old new r → Solving t lim old new′ r′ → (r ≡ r′) × (new ≡ new′)
+  unique-by (inl (f, h)) new new′ r r′ a b =
       let e = a .refused f .1 h in
       let i = b .refused f .1 h in
       (e ∙ sym i, a .untouched f e ∙ sym (b .untouched f i))
-  solving-unique-by (inr (c, h)) new new′ r r′ a b =
+  unique-by (inr (c, h)) new new′ r r′ a b =
       let x = a .searching c h in
       let y = b .searching c h in
       let e : x .0 ≡ y .0 = some-inj (sym (x .2 .jumping) ∙ y .2 .jumping) in (
         x .2 .result ∙ ap (λ (o : Outcome). solvedBy (o .result) (o .choices) (o .skips)) e ∙ sym (y .2 .result),
         x .2 .plan ∙ ap (λ (o : Outcome). planAfter (c .atoms) (o .result) old) e ∙ sym (y .2 .plan),
       )
+
+  pub solving-unique : (new new′ : List ℕ) (r r′ : Solved) → Solving t lim old new r → Solving t lim old new′ r′ → (r ≡ r′) × (new ≡ new′)
+  solving-unique = unique-by (decided t (length old))
 
 -- ---- from the meaning alone
 
@@ -72,3 +82,31 @@ module _ (c : Contents) (lim : ℕ) (old : List ℕ) where
   meaning-unique new new′ (solved.Refused f) r′ a b n m = absurd (a .taken f refl)
   meaning-unique new new′ (solved.Answer k s) (solved.Refused f) a b n m = absurd (b .taken f refl)
   meaning-unique new new′ (solved.Nothing k s) (solved.Refused f) a b n m = absurd (b .taken f refl)
+
+-- ---- of the check
+
+module _ (t : List ℤ) (plan : List ℕ) where
+  pub approving-unique : (r r′ : Checked) → Approving t plan r → Approving t plan r′ → r ≡ r′
+  approving-unique r r′ a b = by-table (decided t (length plan))
+    where
+      refused : (f : Refusal) → CheckRefused t plan f → r ≡ r′
+      refused f h = a .refused f .1 h ∙ sym (b .refused f .1 h)
+
+      by-plan : (c : Contents) → Accepted t (length plan) c → Bits (c .atoms) plan → (m f : Bool) → model (program c) (planAtoms (c .atoms) plan) ≡ m → founded (program c) (c .atoms) (planAtoms (c .atoms) plan) ≡ f → r ≡ r′
+      by-plan c h k true true m f =
+          let x = tested-answer (c .atoms) (program c) (accepted-atoms t c (h .holds)) (h .noHead) (h .noAggregate) (planAtoms (c .atoms) plan) (plan-range (c .atoms) plan) m f in
+          a .yes c h k .1 x ∙ sym (b .yes c h k .1 x)
+      by-plan c h k true false m f =
+          let x = λ (y : AnswerSet (program c) (planAtoms (c .atoms) plan)). clash (answer-tested (c .atoms) (program c) (accepted-atoms t c (h .holds)) (h .noHead) (h .noAggregate) (planAtoms (c .atoms) plan) (plan-range (c .atoms) plan) y .1) f in
+          a .no c h k .1 x ∙ sym (b .no c h k .1 x)
+      by-plan c h k false f m g =
+          let x = λ (y : AnswerSet (program c) (planAtoms (c .atoms) plan)). clash (y .isModel) m in
+          a .no c h k .1 x ∙ sym (b .no c h k .1 x)
+
+      by-bytes : (c : Contents) → Accepted t (length plan) c → ((i : ℕ) × BadByte (c .atoms) plan i) ⊎ Bits (c .atoms) plan → r ≡ r′
+      by-bytes c h (inl (i, k)) = refused (refusal.PlanByte i) (byte c h i k refl)
+      by-bytes c h (inr k) = by-plan c h k (model (program c) (planAtoms (c .atoms) plan)) (founded (program c) (c .atoms) (planAtoms (c .atoms) plan)) refl refl
+
+      by-table : Decided t (length plan) → r ≡ r′
+      by-table (inl (f, h)) = refused f (before h)
+      by-table (inr (c, h)) = by-bytes c h (bad-or-good plan (c .atoms))

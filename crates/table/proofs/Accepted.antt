@@ -2,31 +2,29 @@
 -- right (`Laid`), and the program that `layout` reads there is the one that the table stands for. Assumes nothing.
 use mathlib.Core.Path.{_≡_, refl, sym, ap, _∙_, subst}
 use mathlib.Core.Bool.{Bool, true, false}
-use mathlib.Core.List.{List, [], _∷_, _++_, map, append-nil, List·Memᴰ·not-nil, List·Memᴰ·cases-cons}
-use mathlib.Core.Logic.{_⊎_, inl, inr}
-use Prim.Native.Nat.{ℕ, zero, suc, _+_, _≤_, _<_}
+use mathlib.Core.List.{List, [], _∷_, _++_, append-nil}
+use Prim.Native.Nat.{ℕ, suc, _+_, _-_, _≤_, _<_}
 use native.Mathlib.Omega.{arith}
 use lib.Dec.{T, leb}
-use lib.IntN.{ℤ, pos, natAbs}
-use lib.ListN.{length, getD, drop, length-replicate}
+use lib.IntN.{ℤ, pos}
+use lib.ListN.{length, getD, drop, length-drop, length-append}
 use borrow.Author.Tests.{leb-true}
 use Rattle.results.specs.declared.Refusal.{Refusal}
-use Rattle.results.specs.declared.Refusal.the-variants.{TooManyWords, Trailing}
-use Rattle.meaning.specs.Lists.{_∈_}
-use Rattle.meaning.specs.Program.{Element, Aggregate, In, AtomsIn}
-use Rattle.layout.specs.Layout.{Laid, programOf, startFrom}
+use Rattle.meaning.specs.Program.{Rule, Program, AtomsIn}
+use Rattle.layout.specs.Layout.{Laid, programOf, startFrom, aggregateAt, ruleAt}
 use Rattle.layout.proofs.Inside.{atoms-in}
 use Rattle.table.specs.Roles.{Result, read, refused, run}
-use Rattle.table.specs.Contents.{NumberedRule, Contents, Each, Ascending, AggregateInRange, InRange, encodeAggregate, encodeRule, encodeAll, encode, program}
+use Rattle.table.specs.Contents.{Contents, InRange, encodeAggregate, encodeRule, encodeAll, encode, noAggregate, program}
 use Rattle.table.specs.Grammar.{table, Outcome, accepted, refusedFor, ended, outcomeBy, contentsOf}
-use Rattle.table.specs.Places.{noStarts, placed, noTable, unread, tableOf, readingBy, readingOf}
+use Rattle.table.specs.Promises.{Encoding, ruleFrom}
+use Rattle.table.specs.Places.{noStarts, placed, unread, tableOf, readingBy, readingOf}
 use Rattle.table.specs.declared.Fault.{Fault}
 use Rattle.table.specs.declared.Fault.the-variants as fault
 use Rattle.table.specs.declared.Reading.{Reading}
 use Rattle.table.proofs.Drops.{at-next, at-skip}
 use Rattle.table.proofs.Whole.{table-sound}
 use Rattle.table.proofs.LaidAggregates.{aggregates-are, aggregates-lie, placed-starts}
-use Rattle.table.proofs.LaidRules.{rules-are, rules-lie}
+use Rattle.table.proofs.LaidRules.{rules-are, rules-lie, rule-at, walk-end}
 
 -- ---- outcomes taken apart
 
@@ -78,11 +76,6 @@ fault-refused t r e = go (contentsOf t) refl
     go (refusedFor s) h = h ∙ ap refusedFor (ap (faultIn r) (sym (ap (λ (x : Reading). x .fault) (reading-refused t s h)) ∙ e))
 
 -- ---- an accepted table is an encoding
-
-pub record Encoding (t : List ℤ) (c : Contents) : Type 0 where
-  pub short : length t ≤ 16384
-  pub words : t ≡ encode c
-  pub range : InRange c
 
 ended-accepted : (t : List ℤ) (c : Contents) (r : Result Contents) → run table 0 t ≡ r → ended r ≡ accepted c → (t ≡ encode c) × InRange c
 ended-accepted t c (read d i []) h e =
@@ -144,6 +137,18 @@ module _ (t : List ℤ) (c : Contents) (e : Encoding t c) where
   encoding-program =
       rules-are t (c .aggregates) (aggregates-are t (c .aggregates) 2 rulesWords at-aggregates) (c .atoms) (c .rules) (3 + length (encodeAll encodeAggregate (c .aggregates))) [] at-rules (e .range .rules)
 
+  -- walking the rules from the first ends with the table
+  pub encoding-walk : ruleFrom t (tableOf c .first) (tableOf c .rules) ≡ length t
+  unfolding tableOf encode
+  encoding-walk =
+      let n = length (encodeAll encodeAggregate (c .aggregates)) in
+      let l : length t ≡ suc (suc (n + suc (length (encodeAll encodeRule (c .rules))))) =
+      ap length (e .words) ∙ ap (λ (k : ℕ). suc (suc k)) (length-append (encodeAll encodeAggregate (c .aggregates)) rulesWords) in
+      let w = walk-end t (c .aggregates) (aggregates-are t (c .aggregates) 2 rulesWords at-aggregates) (c .atoms) (c .rules) (3 + n) [] at-rules (omega arith) in
+      let z : length t - ruleFrom t (3 + n) (length (c .rules)) ≡ 0 = sym (length-drop (ruleFrom t (3 + n) (length (c .rules))) t) ∙ ap length (w .0) in
+      let y = w .1 in
+      omega arith
+
 -- ---- the same of an accepted table
 
 pub table-atoms : (c : Contents) → tableOf c .atoms ≡ c .atoms
@@ -156,6 +161,20 @@ module _ (t : List ℤ) (c : Contents) (e : contentsOf t ≡ accepted c) where
 
   pub accepted-program : programOf t (tableOf c) ≡ program c
   accepted-program = encoding-program t c (accepted-encoding t c e)
+
+  -- the rules of the program are those found by walking the table
+  pub accepted-rule : (k : ℕ) (d : Rule) → k < tableOf c .rules → getD (program c) k d ≡ ruleAt t (ruleFrom t (tableOf c .first) k)
+  accepted-rule k d h = ap (λ (P : Program). getD P k d) (sym accepted-program) ∙ rule-at t (tableOf c .rules) (tableOf c .first) k d h
+
+  pub accepted-walk : ruleFrom t (tableOf c .first) (tableOf c .rules) ≡ length t
+  accepted-walk = encoding-walk t c (accepted-encoding t c e)
+
+  -- the aggregates are those that begin where the places say
+  pub accepted-aggregate : (j : ℕ) → j < tableOf c .aggregates → aggregateAt t (getD (tableOf c .starts) j 0) ≡ getD (c .aggregates) j noAggregate
+  unfolding tableOf
+  accepted-aggregate j h =
+      let g = accepted-encoding t c e in
+      ap (aggregateAt t) (accepted-laid .starts j h) ∙ aggregates-are t (c .aggregates) 2 (rulesWords t c g) (at-aggregates t c g) j h
 
   -- every atom of the program is one of 1 to N
   pub accepted-atoms : AtomsIn (c .atoms) (program c)

@@ -2,14 +2,14 @@
 use mathlib.Core.Path.{_≡_, refl, sym, ap, _∙_, subst}
 use mathlib.Core.Bool.{Bool, true, false}
 use mathlib.Core.List.{List, [], _∷_}
-use mathlib.Core.Option.{Option, none, some}
-use Prim.Native.Nat.{ℕ, zero, suc}
+use mathlib.Core.Option.{none, some}
+use Prim.Native.Nat.{ℕ, suc}
 use lib.Dec.{T}
 use lib.IntN.{ℤ, pos, natAbs}
 use lib.ListN.{drop}
 use Rattle.results.specs.declared.Refusal.{Refusal}
 use Rattle.results.specs.declared.Refusal.the-variants.{Absent}
-use Rattle.table.specs.Roles.{Role, fault, Format, done, word, Result, read, refused, run}
+use Rattle.table.specs.Roles.{Role, fault, Format, done, Result, read, refused, run}
 use Rattle.table.specs.Grammar.{one}
 use Rattle.table.specs.Places.{wordOf, gotOf, partOf}
 use Rattle.table.specs.declared.Next.{Next}

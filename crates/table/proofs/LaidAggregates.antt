@@ -17,7 +17,7 @@ use Rattle.meaning.specs.declared.Function.{Function}
 use Rattle.meaning.specs.declared.Function.the-variants.{Count, Sum, Min, Max}
 use Rattle.meaning.specs.declared.Comparison.{Comparison}
 use Rattle.meaning.specs.declared.Comparison.the-variants.{Less, Greater}
-use Rattle.layout.specs.Layout.{natAt, functionBy, comparisonBy, pairs, pairsAt, pastAggregate, aggregateAt, startFrom, AggregateLies}
+use Rattle.layout.specs.Layout.{natAt, functionBy, comparisonBy, pairs, pastAggregate, aggregateAt, startFrom, AggregateLies}
 use Rattle.table.specs.Roles.{within}
 use Rattle.table.specs.Contents.{Each, Ascending, AggregateInRange, functionCode, comparisonCode, encodeElements, encodeAggregate, encodeAll, noAggregate}
 use Rattle.table.specs.Places.{placed}
@@ -26,23 +26,23 @@ use Rattle.table.proofs.Drops.{at-next, at-head, at-skip, at-take, at-w
 
 -- ---- codes
 
-function-back : (f : Function) → functionBy (functionCode f) ≡ f
+pub function-back : (f : Function) → functionBy (functionCode f) ≡ f
 function-back Count = refl
 function-back Sum = refl
 function-back Min = refl
 function-back Max = refl
 
-function-most : (f : Function) → functionCode f ≤ 3
+pub function-most : (f : Function) → functionCode f ≤ 3
 function-most Count = omega arith
 function-most Sum = omega arith
 function-most Min = omega arith
 function-most Max = omega arith
 
-comparison-back : (c : Comparison) → comparisonBy (comparisonCode c) ≡ c
+pub comparison-back : (c : Comparison) → comparisonBy (comparisonCode c) ≡ c
 comparison-back Less = refl
 comparison-back Greater = refl
 
-comparison-most : (c : Comparison) → comparisonCode c ≤ 1
+pub comparison-most : (c : Comparison) → comparisonCode c ≤ 1
 comparison-most Less = omega arith
 comparison-most Greater = omega arith
 

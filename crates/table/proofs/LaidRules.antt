@@ -1,17 +1,18 @@
 -- The rules of an encoding, found in place: where a rule's words stand at index i of the table, `layout` reads that rule there, and the
 -- next one begins past its words. Assumes nothing.
 use mathlib.Core.Path.{_≡_, refl, sym, ap, _∙_, subst}
-use mathlib.Core.List.{List, [], _∷_, _++_, map, map-map, map-id, append-assoc}
+use mathlib.Core.List.{List, [], _∷_, _++_, map, append-assoc}
 use Prim.Native.Nat.{ℕ, zero, suc, _+_, _-_, _≤_, _<_}
 use native.Mathlib.Nat.{le-of-suc-le-suc, not-suc-le-zero}
 use native.Mathlib.Omega.{arith}
 use lib.IntN.{ℤ, pos, natAbs}
 use lib.Signed.{nonNeg}
-use lib.ListN.{length, getD, take, drop, length-map}
-use Rattle.meaning.specs.Program.{Aggregate, Literal, Rule, Program}
+use lib.ListN.{length, getD, take, drop}
+use Rattle.meaning.specs.Program.{Aggregate, Rule}
 use Rattle.layout.specs.Layout as layout
 use Rattle.layout.specs.Layout.{natAt, partAt, pastAt, Members, Listed, literalOf, posAt, negAt, aggsAt, pastRule, ruleAt, rulesFrom, RuleLies, RulesLie, aggregateAt, startFrom}
-use Rattle.table.specs.Contents.{NumberedRule, Each, Ascending, RuleInRange, encodeList, encodeAtoms, encodeRule, encodeAll, noAggregate, aggregateBy, literalBy, ruleBy}
+use Rattle.table.specs.Contents.{NumberedRule, Each, Ascending, RuleInRange, encodeList, encodeAtoms, encodeRule, encodeAll, noAggregate, literalBy, ruleBy}
+use Rattle.table.specs.Promises.{ruleFrom}
 use Rattle.table.proofs.Drops.{at-next, at-head, at-skip, at-take, at-within}
 
 -- ---- lists
@@ -46,9 +47,12 @@ module _ (t : List ℤ) (i : ℕ) (l rest : List ℤ) (d : drop i t ≡ encodeLi
   pub list-next : drop (pastAt t i) t ≡ rest
   list-next = ap (λ (n : ℕ). drop n t) list-past ∙ at-skip t i (encodeList l) rest d
 
+  pub list-fits : pastAt t i ≤ length t
+  list-fits = rw list-past (at-within t i (encodeList l) rest d (omega arith))
+
   pub list-lies : (top : ℕ) → Ascending top 0 (map natAbs l) → Listed top t i
   list-lies top a = record {
-    fits = rw list-past (at-within t i (encodeList l) rest d (omega arith));
+    fits = list-fits;
     members = subst (Members top) (sym list-part) (ascending-in top 0 l a);
   }
 
@@ -94,6 +98,9 @@ module _ (t : List ℤ) (gs : List Aggregate) (found : (j : ℕ) → j < length 
     pub rule-next : drop (pastRule t i) t ≡ rest
     rule-next = list-next t (aggsAt t i) (r .aggs) rest d3
 
+    pub rule-fits : pastRule t i ≤ length t
+    rule-fits = list-fits t (aggsAt t i) (r .aggs) rest d3
+
     pub rule-is : RuleInRange top (length gs) r → ruleAt t i ≡ ruleBy gs r
     unfolding ruleAt
     rule-is g = λ s. record {
@@ -128,3 +135,30 @@ module _ (t : List ℤ) (gs : List Aggregate) (found : (j : ℕ) → j < length 
   rules-lie top (r ∷ rs) i rest d g =
       let e = d ∙ append-assoc (encodeRule r) (encodeAll encodeRule rs) rest in
       (rule-lies top i r (encodeAll encodeRule rs ++ rest) e (g .0), rules-lie top rs (pastRule t i) rest (rule-next top i r (encodeAll encodeRule rs ++ rest) e) (g .1))
+
+  -- ---- walking them
+
+  walk-zero : (i : ℕ) → ruleFrom t i 0 ≡ i
+  unfolding ruleFrom
+  walk-zero i = refl
+
+  walk-suc : (i k : ℕ) → ruleFrom t i (suc k) ≡ ruleFrom t (pastRule t i) k
+  unfolding ruleFrom
+  walk-suc i k = refl
+
+  -- past the last rule stands what follows the rules
+  pub walk-end : (top : ℕ) (rs : List NumberedRule) (i : ℕ) (rest : List ℤ) → drop i t ≡ encodeAll encodeRule rs ++ rest → i ≤ length t
+      → (drop (ruleFrom t i (length rs)) t ≡ rest) × (ruleFrom t i (length rs) ≤ length t)
+  walk-end top [] i rest d h = (ap (λ (k : ℕ). drop k t) (walk-zero i) ∙ d, rw (walk-zero i) h)
+  walk-end top (r ∷ rs) i rest d h =
+      let e = d ∙ append-assoc (encodeRule r) (encodeAll encodeRule rs) rest in
+      let q = encodeAll encodeRule rs ++ rest in
+      let w = walk-end top rs (pastRule t i) rest (rule-next top i r q e) (rule-fits top i r q e) in
+      (ap (λ (k : ℕ). drop k t) (walk-suc i (length rs)) ∙ w .0, rw (walk-suc i (length rs)) (w .1))
+
+-- the k-th rule read is the one that begins there
+pub rule-at : (t : List ℤ) (n i k : ℕ) (d : Rule) → k < n → getD (rulesFrom t i n) k d ≡ ruleAt t (ruleFrom t i k)
+unfolding rulesFrom ruleFrom
+rule-at t zero i k d h = absurd (not-suc-le-zero h)
+rule-at t (suc n) i zero d h = refl
+rule-at t (suc n) i (suc k) d h = rule-at t n (pastRule t i) k d (le-of-suc-le-suc h)

@@ -1,5 +1,6 @@
 -- What the proofs of several functions share, and the laws of the table. Assumes nothing.
 pub mod Drops
+pub mod Fits
 pub mod Run
 pub mod Faults
 pub mod Enums
@@ -10,4 +11,9 @@ pub mod Placing
 pub mod Whole
 pub mod LaidAggregates
 pub mod LaidRules
+pub mod Complete
+pub mod FirstFault
 pub mod Accepted
+pub mod Theorem
+pub mod Members
+pub mod Examples

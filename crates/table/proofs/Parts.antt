@@ -1,22 +1,20 @@
 -- How the parts of a table go on by one word or one part, and where they stop, in the terms of the code: numbers and indices.
 -- Assumes nothing.
 use mathlib.Core.Path.{_≡_, refl, sym, ap, _∙_}
-use mathlib.Core.Bool.{Bool, true, false}
+use mathlib.Core.Bool.{Bool, false}
 use mathlib.Core.List.{List, [], _∷_}
-use Prim.Native.Nat.{ℕ, zero, suc, _+_, _-_, _<_}
+use Prim.Native.Nat.{ℕ, suc, _-_, _<_}
 use native.Mathlib.Omega.{arith}
-use lib.IntN.{ℤ, pos, negsuc, natAbs}
-use lib.ListN.{length, drop}
+use lib.IntN.{ℤ, pos, natAbs}
+use lib.ListN.{drop}
 use Rattle.results.specs.declared.Refusal.{Refusal}
-use Rattle.meaning.specs.Program.{Element, Aggregate}
-use Rattle.table.specs.Roles.{Role, count, quantity, member, Format, done, word, _>>=_, Result, read, refused, run}
-use Rattle.table.specs.Grammar.{one, times, members, list, atoms, elements, aggregate, rule, aggregates, rules}
-use Rattle.table.specs.Places.{gotOf, partOf, passedOf}
-use Rattle.table.specs.declared.Got.{Got}
+use Rattle.meaning.specs.Program.{Element}
+use Rattle.table.specs.Roles.{count, quantity, member, Format, done, _>>=_, Result, read, refused, run}
+use Rattle.table.specs.Grammar.{one, times, members, list, elements}
+use Rattle.table.specs.Places.{gotOf, partOf}
 use Rattle.table.specs.declared.Got.the-variants as got
-use Rattle.table.specs.declared.Part.{Part}
 use Rattle.table.specs.declared.Part.the-variants as part
-use Rattle.table.proofs.Run.{run-done, run-bind, andThen, bind-on, bind-stop}
+use Rattle.table.proofs.Run.{run-done, bind-on, bind-stop}
 use Rattle.table.proofs.Enums.{got-read, got-refused, part-read, part-refused}
 
 -- a number above 0 is a successor

@@ -1,33 +1,28 @@
 -- The sections of the table and the whole, in the terms of the code: where the aggregates begin, the end of the table, the refusals that
 -- come before and after. Assumes nothing.
 use mathlib.Core.Path.{_≡_, refl, sym, ap, _∙_, subst}
-use mathlib.Core.Bool.{Bool, true, false}
-use mathlib.Core.List.{List, [], _∷_, _++_}
-use Prim.Native.Nat.{ℕ, zero, suc, _+_, _-_, _≤_, _<_}
+use mathlib.Core.List.{List, [], _∷_}
+use Prim.Native.Nat.{ℕ, suc, _+_, _-_, _≤_, _<_}
 use native.Mathlib.Numerals.{add-one}
 use native.Mathlib.Omega.{arith}
-use lib.Dec.{leb}
 use lib.IntN.{ℤ, pos, natAbs}
-use lib.ListN.{length, drop, set, length-append, length-drop, drop-of-length-le}
+use lib.ListN.{length, drop, set, length-append, drop-of-length-le}
 use lib.Seq.{drop-cons}
-use borrow.Author.Tests.{le-leb, lt-leb}
 use Rattle.results.specs.declared.Refusal.{Refusal}
-use Rattle.results.specs.declared.Refusal.the-variants.{TooManyWords, Trailing}
+use Rattle.results.specs.declared.Refusal.the-variants.{Trailing}
 use Rattle.meaning.specs.Program.{Aggregate}
-use Rattle.table.specs.Roles.{count, Format, done, word, _>>=_, Result, read, refused, run}
-use Rattle.table.specs.Contents.{NumberedRule, Contents, AggregateInRange, RuleInRange, encodeAggregate, encodeRule, encodeAll}
-use Rattle.table.specs.Grammar.{one, times, aggregate, aggregates, rule, rules, table, contentsOf, outcomeBy, ended}
-use Rattle.table.specs.Places.{gotOf, partOf, noStarts, placed, noPlaces, placesFrom, unread, finished, tableOf, readingBy, readingOf}
+use Rattle.table.specs.Roles.{count, Format, done, _>>=_, Result, read, refused, run}
+use Rattle.table.specs.Contents.{RuleInRange, encodeAggregate, encodeRule}
+use Rattle.table.specs.Grammar.{one, times, aggregate, aggregates, rule, rules, table}
+use Rattle.table.specs.Places.{gotOf, partOf, noStarts, placed, noPlaces, placesFrom, unread, finished}
 use Rattle.table.specs.declared.Got.the-variants as got
 use Rattle.table.specs.declared.Part.the-variants as part
-use Rattle.table.specs.declared.Places.{Places}
 use Rattle.table.specs.declared.Fault.the-variants as fault
-use Rattle.table.specs.declared.Reading.{Reading}
 use Rattle.table.proofs.Drops.{at-below}
 use Rattle.table.proofs.Run.{run-done, run-length, bind-on, bind-stop}
 use Rattle.table.proofs.Faults.{count-good}
 use Rattle.table.proofs.Enums.{got-read, got-refused, part-read, part-refused}
-use Rattle.table.proofs.Parts.{part-on, word-on}
+use Rattle.table.proofs.Parts.{word-on}
 use Rattle.table.proofs.Sound.{one-sound, aggregate-sound, rule-sound, times-sound}
 
 -- ---- the aggregates

@@ -1,14 +1,14 @@
 -- An aggregate and a rule, word by word and list by list, in the terms of the code. Assumes nothing.
-use mathlib.Core.Path.{_≡_, refl, sym, ap, _∙_}
-use mathlib.Core.Bool.{Bool, true, false}
-use mathlib.Core.List.{List, [], _∷_, map}
-use Prim.Native.Nat.{ℕ, zero, suc}
+use mathlib.Core.Path.{_≡_, refl, ap, _∙_}
+use mathlib.Core.Bool.{true, false}
+use mathlib.Core.List.{List, map}
+use Prim.Native.Nat.{ℕ}
 use lib.IntN.{ℤ, pos, negsuc, natAbs}
-use lib.ListN.{length, drop}
+use lib.ListN.{drop}
 use Rattle.results.specs.declared.Refusal.{Refusal}
 use Rattle.meaning.specs.Program.{Element, Aggregate}
 use Rattle.layout.specs.Layout.{functionBy, comparisonBy}
-use Rattle.table.specs.Roles.{count, quantity, member, Format, done, word, _>>=_, Result, read, refused, run}
+use Rattle.table.specs.Roles.{count, quantity, Format, done, _>>=_, run}
 use Rattle.table.specs.Contents.{NumberedRule}
 use Rattle.table.specs.Grammar.{one, list, atoms, elements, aggregate, rule}
 use Rattle.table.specs.Places.{gotOf, partOf}

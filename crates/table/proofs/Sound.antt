@@ -3,7 +3,7 @@ use mathlib.Core.Path.{_≡_, refl, sym, ap, _∙_, subst}
 use mathlib.Core.Bool.{Bool, true, false, _||_}
 use mathlib.Core.List.{List, [], _∷_, _++_, map, append-assoc}
 use mathlib.Core.Option.{none}
-use Prim.Native.Nat.{ℕ, zero, suc, _≤_, _<_}
+use Prim.Native.Nat.{ℕ, zero, suc, _≤_}
 use native.Mathlib.Omega.{arith}
 use lib.Dec.{T}
 use lib.IntN.{ℤ, pos, negsuc, natAbs}
@@ -11,11 +11,11 @@ use lib.ListN.{length, length-map}
 use lib.Signed.{nonNeg}
 use Rattle.meaning.specs.Program.{Element, Aggregate}
 use Rattle.layout.specs.Layout.{functionBy, comparisonBy}
-use Rattle.table.specs.Roles.{Role, count, quantity, member, within, fault, Format, done, word, _>>=_, Result, read, refused, run}
-use Rattle.table.specs.Contents.{NumberedRule, Contents, Each, Ascending, AggregateInRange, RuleInRange, InRange, functionCode, comparisonCode, encodeList, encodeAtoms, encodeElements, encodeAggregate, encodeRule, encodeAll, encode}
-use Rattle.table.specs.Grammar.{one, times, members, list, atoms, elements, aggregate, rule, aggregates, rules, table}
-use Rattle.table.proofs.Run.{run-done, same-what, same-index, same-words, Taken, taken, Both, both}
-use Rattle.table.proofs.Faults.{count-good, quantity-good, within-number, Member, member-good}
+use Rattle.table.specs.Roles.{Role, count, quantity, member, fault, Format, done, _>>=_, read, run}
+use Rattle.table.specs.Contents.{NumberedRule, Each, Ascending, AggregateInRange, RuleInRange, functionCode, comparisonCode, encodeList, encodeAtoms, encodeElements, encodeAggregate, encodeRule, encodeAll}
+use Rattle.table.specs.Grammar.{one, times, members, list, atoms, elements, aggregate, rule}
+use Rattle.table.proofs.Run.{run-done, same-what, same-index, same-words, taken, both}
+use Rattle.table.proofs.Faults.{count-good, quantity-good, within-number, member-good}
 use Rattle.table.proofs.Sections.{functionWord, comparisonWord, thresholdWord, made, after1, after2, after3, after4, posList, negList, lastList}
 
 -- ---- a word, and what is made of what was read

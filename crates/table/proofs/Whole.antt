@@ -2,16 +2,15 @@
 use mathlib.Core.Path.{_≡_, refl, sym, ap, _∙_, subst}
 use mathlib.Core.Bool.{Bool, true, false}
 use mathlib.Core.List.{List, [], _∷_, _++_, append-assoc}
-use Prim.Native.Nat.{ℕ, zero, suc, _+_, _≤_, _<_}
+use Prim.Native.Nat.{ℕ, suc, _+_, _≤_, _<_}
 use native.Mathlib.Omega.{arith}
-use lib.Dec.{T, leb}
 use lib.IntN.{ℤ, pos, natAbs}
 use lib.ListN.{length, drop, length-append}
 use borrow.Author.Tests.{le-leb, lt-leb}
 use Rattle.results.specs.declared.Refusal.{Refusal}
-use Rattle.results.specs.declared.Refusal.the-variants.{TooManyWords, Trailing}
+use Rattle.results.specs.declared.Refusal.the-variants.{TooManyWords}
 use Rattle.meaning.specs.Program.{Aggregate}
-use Rattle.table.specs.Roles.{count, Format, done, word, _>>=_, Result, read, refused, run}
+use Rattle.table.specs.Roles.{count, Format, done, _>>=_, Result, read, refused, run}
 use Rattle.table.specs.Contents.{NumberedRule, Contents, Each, AggregateInRange, RuleInRange, InRange, encodeAggregate, encodeRule, encodeAll, encode}
 use Rattle.table.specs.Grammar.{one, times, aggregate, aggregates, rule, rules, table, contentsOf, outcomeBy, ended}
 use Rattle.table.specs.Places.{gotOf, partOf, noStarts, placed, placesFrom, unread, finished, tableOf, readingBy, readingOf}
@@ -20,11 +19,10 @@ use Rattle.table.specs.declared.Part.{Part}
 use Rattle.table.specs.declared.Part.the-variants as part
 use Rattle.table.specs.declared.Places.{Places}
 use Rattle.table.specs.declared.Fault.the-variants as fault
-use Rattle.table.specs.declared.Reading.{Reading}
 use Rattle.table.proofs.Run.{run-done, run-length, both, bind-on, bind-stop}
 use Rattle.table.proofs.Faults.{count-good}
 use Rattle.table.proofs.Enums.{got-read, got-refused, part-read, part-refused}
-use Rattle.table.proofs.Sound.{one-sound, mapped, aggregate-sound, rule-sound, All, times-sound}
+use Rattle.table.proofs.Sound.{one-sound, mapped, aggregate-sound, rule-sound, times-sound}
 
 -- ---- the sections are encodings
 

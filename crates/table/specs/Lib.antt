@@ -2,4 +2,5 @@
 pub mod Roles
 pub mod Contents
 pub mod Grammar
+pub mod Promises
 pub mod Places

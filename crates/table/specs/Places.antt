@@ -3,7 +3,7 @@
 --   tableOf c      the places of the contents c in its words
 -- Assumes nothing.
 use mathlib.Core.List.{List, [], _∷_}
-use Prim.Native.Nat.{ℕ, zero, suc, _+_}
+use Prim.Native.Nat.{ℕ, suc, _+_}
 use lib.IntN.{ℤ, natAbs}
 use lib.ListN.{length, set, replicate}
 use Rattle.results.specs.declared.Refusal.{Refusal}
@@ -21,7 +21,6 @@ use Rattle.table.specs.declared.Got.the-variants as got
 use Rattle.table.specs.declared.Part.{Part}
 use Rattle.table.specs.declared.Part.the-variants as part
 use Rattle.table.specs.declared.Places.{Places}
-use Rattle.table.specs.declared.Fault.{Fault}
 use Rattle.table.specs.declared.Fault.the-variants as fault
 use Rattle.table.specs.declared.Reading.{Reading}
 

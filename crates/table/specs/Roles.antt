@@ -8,9 +8,9 @@
 use mathlib.Core.Bool.{Bool, true, false, _&&_, _||_}
 use mathlib.Core.List.{List, [], _∷_}
 use mathlib.Core.Option.{Option, none, some}
-use Prim.Native.Nat.{ℕ, zero, suc}
+use Prim.Native.Nat.{ℕ, suc}
 use lib.Dec.{leb, ltb}
-use lib.IntN.{ℤ, pos, negsuc, natAbs}
+use lib.IntN.{ℤ, pos, natAbs}
 use lib.Signed.{leZ, nonNeg}
 use Rattle.results.specs.declared.Refusal.{Refusal}
 use Rattle.results.specs.declared.Refusal.the-variants.{Absent, Count, Number, Descent, Quantity}

@@ -1,6 +1,6 @@
 -- `table::finish` meets its contract: the count, the rules, the end. Assumes nothing.
 use borrow.Author.Needs.{needs}
-use mathlib.Core.Path.{_≡_, refl, sym, ap, _∙_}
+use mathlib.Core.Path.{_≡_, sym, ap, _∙_}
 use lib.ListN.{drop}
 use Rattle.table.specs.Roles.{count, run}
 use Rattle.table.specs.Grammar.{one}
@@ -9,8 +9,6 @@ use Rattle.table.specs.declared.Got.the-variants.{Number}
 use Rattle.table.proofs.Placing.{finish-stop, finish-stop2, finish-trailing, finish-end}
 use Rattle.table.proofs.finish.Statement.{statement}
 use Rattle.table.proofs.finish.Tie as tie
-use Rattle.table.proofs.finish.Reads as reads
-use Rattle.table.proofs.finish.Lts as lts
 
 count-at-requires : tie.Need-count-at-requires
 count-at-requires c κs = search needs

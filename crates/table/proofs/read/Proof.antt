@@ -1,18 +1,15 @@
 -- `table::read` meets its contract: the number of words, the count of the atoms, the aggregates, the rules. Assumes nothing.
 use borrow.Author.Needs.{needs}
-use mathlib.Core.Path.{_≡_, refl, sym, ap, _∙_}
+use mathlib.Core.Path.{_≡_, sym, ap, _∙_}
 use Prim.Native.Nat.{ℕ}
 use lib.ListN.{drop}
 use Rattle.table.specs.Roles.{count, run}
 use Rattle.table.specs.Grammar.{one}
 use Rattle.table.specs.Places.{gotOf, passedOf, unreadPart}
 use Rattle.table.specs.declared.Cursor.{Cursor}
-use Rattle.table.specs.declared.Got.the-variants.{Number}
 use Rattle.table.proofs.Whole.{reading-many, reading-stop, reading-stop2, reading-on}
 use Rattle.table.proofs.read.Statement.{statement}
 use Rattle.table.proofs.read.Tie as tie
-use Rattle.table.proofs.read.Reads as reads
-use Rattle.table.proofs.read.Lts as lts
 
 unread-requires : tie.Need-unread-requires
 unread-requires c κs = search needs

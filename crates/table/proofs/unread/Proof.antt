@@ -1,6 +1,6 @@
 -- `table::unread` meets its contract. Assumes nothing.
 use borrow.Author.Needs.{needs}
-use mathlib.Core.Path.{_≡_, sym, ap}
+use mathlib.Core.Path.{sym, ap}
 use Rattle.table.specs.Places.{unreadPart}
 use Rattle.table.proofs.unread.Statement.{statement}
 use Rattle.table.proofs.unread.Tie as tie
