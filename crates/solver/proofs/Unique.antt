@@ -97,10 +97,10 @@ module _ (t : List ℤ) (plan : List ℕ) where
           let x = tested-answer (c .atoms) (program c) (accepted-atoms t c (h .holds)) (h .noHead) (h .noAggregate) (planAtoms (c .atoms) plan) (plan-range (c .atoms) plan) m f in
           a .yes c h k .1 x ∙ sym (b .yes c h k .1 x)
       by-plan c h k true false m f =
-          let x = λ (y : AnswerSet (program c) (planAtoms (c .atoms) plan)). clash (answer-tested (c .atoms) (program c) (accepted-atoms t c (h .holds)) (h .noHead) (h .noAggregate) (planAtoms (c .atoms) plan) (plan-range (c .atoms) plan) y .1) f in
+          let x : AnswerSet (program c) (planAtoms (c .atoms) plan) → ⊥ = λ y. clash (answer-tested (c .atoms) (program c) (accepted-atoms t c (h .holds)) (h .noHead) (h .noAggregate) (planAtoms (c .atoms) plan) (plan-range (c .atoms) plan) y .1) f in
           a .no c h k .1 x ∙ sym (b .no c h k .1 x)
       by-plan c h k false f m g =
-          let x = λ (y : AnswerSet (program c) (planAtoms (c .atoms) plan)). clash (y .isModel) m in
+          let x : AnswerSet (program c) (planAtoms (c .atoms) plan) → ⊥ = λ y. clash (y .isModel) m in
           a .no c h k .1 x ∙ sym (b .no c h k .1 x)
 
       by-bytes : (c : Contents) → Accepted t (length plan) c → ((i : ℕ) × BadByte (c .atoms) plan i) ⊎ Bits (c .atoms) plan → r ≡ r′
