@@ -18,10 +18,13 @@ use Rattle.table.specs.Roles.{Result, read, refused, run}
 use Rattle.table.specs.Contents.{Contents, Ascending, AggregateInRange, InRange, encode}
 use Rattle.table.specs.Grammar.{table, Outcome, accepted, refusedFor, ended, outcomeBy, contentsOf}
 use Rattle.table.specs.Promises.{Encoding, FirstFault}
+use Rattle.table.specs.Places.{readingOf}
+use Rattle.table.specs.declared.Fault.the-variants as fault
+use Rattle.table.specs.declared.Reading.{Reading}
 use Rattle.table.proofs.Run.{same-what}
 use Rattle.table.proofs.Complete.{table-reads}
 use Rattle.table.proofs.FirstFault.{stopped, went}
-use Rattle.table.proofs.Accepted.{accepted≢refused, accepted-encoding}
+use Rattle.table.proofs.Accepted.{accepted≢refused, accepted-encoding, fault-nothing, reading-accepted}
 
 -- ---- accepted exactly if an encoding
 
@@ -48,6 +51,17 @@ encode-injective c d p q e =
     let r = table-reads 0 c [] p in
     let s = table-reads 0 d [] q in
     same-what (sym (r .1) ∙ ap (λ (ws : List ℤ). run table 0 (ws ++ [])) e ∙ s .1)
+
+-- the same of what `read` returns: nothing is at fault exactly if the words are an encoding
+pub nothing↔encoding : (t : List ℤ) → (readingOf t .fault ≡ fault.Nothing) ↔ ((c : Contents) × Encoding t c)
+nothing↔encoding t = (
+  λ e. let n = fault-nothing t e in (n .0, accepted-encoding t (n .0) (n .1)),
+  λ e. ap (λ (r : Reading). r .fault) (reading-accepted t (e .0) (encoding-accepted t (e .0) (e .1))),
+)
+
+-- the contract of `read` leaves no choice
+pub reading-unique : (t : List ℤ) (r s : Reading) → r ≡ readingOf t → s ≡ readingOf t → r ≡ s
+reading-unique t r s e f = e ∙ sym f
 
 -- ---- the first fault from the left
 

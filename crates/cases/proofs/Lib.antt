@@ -1,0 +1,2 @@
+-- What is proved of the cases. Assumes nothing.
+pub mod Table

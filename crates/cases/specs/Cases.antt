@@ -1,0 +1,109 @@
+-- 01's cases with a star (A to K), and its worked example: words, limit, and what the jumping and the plain search report. Definitions only.
+--   shownFor       what the definitions report of words with a limit, as numbers: 0 answer, 1 none, 2 limit, each with the choices, the skips and the true
+--                  atoms; 3 refused, with 01's number and place
+--   asReported     the shared claim about the definitions, as one test
+-- Assumes nothing.
+use Prim.Native.Nat.{ℕ}
+use mathlib.Core.Bool.{Bool, _&&_}
+use mathlib.Core.List.{List, [], _∷_}
+use lib.Dec.{leb}
+use lib.IntN.{ℤ, pos, negsuc}
+use lib.ListN.{length}
+use Rattle.meaning.specs.Foundedness.{sameList}
+use Rattle.results.specs.declared.Refusal.{Refusal}
+use Rattle.results.specs.declared.Solved.{Solved}
+use Rattle.results.specs.declared.Solved.the-variants as solved
+use Rattle.results.specs.Results.{numberOf, placeOf}
+use Rattle.table.specs.Contents.{Contents, program}
+use Rattle.table.specs.Grammar as grammar
+use Rattle.depend.specs.Cycles.{cycleOf}
+use Rattle.depend.specs.declared.Cycle.{Cycle}
+use Rattle.depend.specs.declared.Cycle.the-variants as cycle
+use Rattle.search.specs.Search.{Mode, jump, plain, solve}
+use Rattle.search.specs.Base.{base}
+use Rattle.search.specs.Shown.{trueList, shown}
+use Rattle.solver.specs.Approving.{planAtoms}
+
+-- ---- what the definitions report
+
+abbrev pub shownRefusal : Refusal → List ℕ
+shownRefusal f = 3 ∷ numberOf f ∷ placeOf f ∷ []
+
+-- the search on contents whose cycles are k
+abbrev pub shownCycle : Cycle → Mode → ℕ → Contents → List ℕ
+shownCycle (cycle.Refused f) mode lim c = shownRefusal f
+shownCycle cycle.Nothing mode lim c = shown (c .atoms) (solve (base (program c) (c .atoms)) mode lim)
+
+abbrev pub shownContents : grammar.Outcome → Mode → ℕ → List ℕ
+shownContents (grammar.refusedFor f) mode lim = shownRefusal f
+shownContents (grammar.accepted c) mode lim = shownCycle (cycleOf (c .atoms) (program c)) mode lim c
+
+abbrev pub shownFor : Mode → List ℤ → ℕ → List ℕ
+shownFor mode t lim = shownContents (grammar.contentsOf t) mode lim
+
+-- ---- what a result and a later plan buffer show of a table with n atoms
+
+abbrev pub shownSolved : ℕ → Solved → List ℕ → List ℕ
+shownSolved n (solved.Answer k s) new = 0 ∷ k ∷ s ∷ trueList n (planAtoms n new)
+shownSolved n (solved.Nothing k s) new = 1 ∷ k ∷ s ∷ []
+shownSolved n (solved.Limit k s) new = 2 ∷ k ∷ s ∷ []
+shownSolved n (solved.Refused f) new = shownRefusal f
+
+-- the number of atoms that the words have; refused words have none
+abbrev pub atomsIn : grammar.Outcome → ℕ
+atomsIn (grammar.refusedFor f) = 0
+atomsIn (grammar.accepted c) = c .atoms
+
+-- ---- the table
+
+pub record Case : Type 0 where
+  pub limit : ℕ
+  pub words : List ℤ
+  pub jumps : List ℕ
+  pub plains : List ℕ
+
+abbrev pub case : ℕ → List ℤ → List ℕ → List ℕ → Case
+case l t j p = record { limit = l; words = t; jumps = j; plains = p }
+
+unfoldable pub asReported : Case → Bool
+asReported c = leb (length (c .words)) 16384 && (sameList (shownFor jump (c .words) (c .limit)) (c .jumps) && sameList (shownFor plain (c .words) (c .limit)) (c .plains))
+
+unfoldable pub cases : List Case
+cases =
+    -- A, limit 0: answer, nothing true, choices 0, skips 0
+    case 0 (pos 0 ∷ pos 0 ∷ pos 0 ∷ []) (0 ∷ 0 ∷ 0 ∷ []) (0 ∷ 0 ∷ 0 ∷ [])
+    -- B: none, 1 and 0
+    ∷ case 5 (pos 1 ∷ pos 0 ∷ pos 1 ∷ pos 1 ∷ pos 1 ∷ pos 0 ∷ pos 1 ∷ pos 1 ∷ pos 0 ∷ []) (1 ∷ 1 ∷ 0 ∷ []) (1 ∷ 1 ∷ 0 ∷ [])
+    -- B with limit 0: limit, 0 and 0
+    ∷ case 0 (pos 1 ∷ pos 0 ∷ pos 1 ∷ pos 1 ∷ pos 1 ∷ pos 0 ∷ pos 1 ∷ pos 1 ∷ pos 0 ∷ []) (2 ∷ 0 ∷ 0 ∷ []) (2 ∷ 0 ∷ 0 ∷ [])
+    -- C: answer, nothing true, 1 and 0
+    ∷ case 5 (pos 2 ∷ pos 0 ∷ pos 2 ∷ pos 1 ∷ pos 1 ∷ pos 1 ∷ pos 2 ∷ pos 0 ∷ pos 0 ∷ pos 1 ∷ pos 2 ∷ pos 1 ∷ pos 1 ∷ pos 0 ∷ pos 0 ∷ []) (0 ∷ 1 ∷ 0 ∷ []) (0 ∷ 1 ∷ 0 ∷ [])
+    -- D: answer 1; choices 1
+    ∷ case 5 (pos 2 ∷ pos 0 ∷ pos 1 ∷ pos 2 ∷ pos 1 ∷ pos 2 ∷ pos 0 ∷ pos 0 ∷ pos 0 ∷ []) (0 ∷ 1 ∷ 0 ∷ 1 ∷ []) (0 ∷ 1 ∷ 0 ∷ 1 ∷ [])
+    -- E: refused 8, place 1
+    ∷ case 5 (pos 2 ∷ pos 0 ∷ pos 3 ∷ pos 2 ∷ pos 1 ∷ pos 2 ∷ pos 0 ∷ pos 0 ∷ pos 0 ∷ pos 1 ∷ pos 1 ∷ pos 1 ∷ pos 2 ∷ pos 0 ∷ pos 0 ∷ pos 1 ∷ pos 2 ∷ pos 1 ∷ pos 1 ∷ pos 0 ∷ pos 0 ∷ []) (3 ∷ 8 ∷ 1 ∷ []) (3 ∷ 8 ∷ 1 ∷ [])
+    -- F: answer 1 2 3; choices 0
+    ∷ case 5 (pos 3 ∷ pos 1 ∷ pos 0 ∷ pos 1 ∷ pos 1 ∷ pos 2 ∷ pos 1 ∷ pos 1 ∷ pos 1 ∷ pos 2 ∷ pos 3 ∷ pos 1 ∷ pos 1 ∷ pos 0 ∷ pos 0 ∷ pos 0 ∷ pos 1 ∷ pos 2 ∷ pos 0 ∷ pos 0 ∷ pos 0 ∷ pos 1 ∷ pos 3 ∷ pos 0 ∷ pos 0 ∷ pos 1 ∷ pos 1 ∷ []) (0 ∷ 0 ∷ 0 ∷ 1 ∷ 2 ∷ 3 ∷ []) (0 ∷ 0 ∷ 0 ∷ 1 ∷ 2 ∷ 3 ∷ [])
+    -- F with threshold 2: answer 1 2
+    ∷ case 5 (pos 3 ∷ pos 1 ∷ pos 0 ∷ pos 1 ∷ pos 2 ∷ pos 2 ∷ pos 1 ∷ pos 1 ∷ pos 1 ∷ pos 2 ∷ pos 3 ∷ pos 1 ∷ pos 1 ∷ pos 0 ∷ pos 0 ∷ pos 0 ∷ pos 1 ∷ pos 2 ∷ pos 0 ∷ pos 0 ∷ pos 0 ∷ pos 1 ∷ pos 3 ∷ pos 0 ∷ pos 0 ∷ pos 1 ∷ pos 1 ∷ []) (0 ∷ 0 ∷ 0 ∷ 1 ∷ 2 ∷ []) (0 ∷ 0 ∷ 0 ∷ 1 ∷ 2 ∷ [])
+    -- G: nothing true
+    ∷ case 5 (pos 2 ∷ pos 1 ∷ pos 2 ∷ pos 1 ∷ pos 3 ∷ pos 1 ∷ pos 5 ∷ pos 1 ∷ pos 1 ∷ pos 1 ∷ pos 2 ∷ pos 0 ∷ pos 0 ∷ pos 1 ∷ pos 1 ∷ []) (0 ∷ 0 ∷ 0 ∷ []) (0 ∷ 0 ∷ 0 ∷ [])
+    -- G with the aggregate negated: answer 2
+    ∷ case 5 (pos 2 ∷ pos 1 ∷ pos 2 ∷ pos 1 ∷ pos 3 ∷ pos 1 ∷ pos 5 ∷ pos 1 ∷ pos 1 ∷ pos 1 ∷ pos 2 ∷ pos 0 ∷ pos 0 ∷ pos 1 ∷ negsuc 0 ∷ []) (0 ∷ 0 ∷ 0 ∷ 2 ∷ []) (0 ∷ 0 ∷ 0 ∷ 2 ∷ [])
+    -- H: refused 9, place 1
+    ∷ case 5 (pos 1 ∷ pos 1 ∷ pos 0 ∷ pos 1 ∷ pos 0 ∷ pos 1 ∷ pos 1 ∷ pos 1 ∷ pos 1 ∷ pos 1 ∷ pos 1 ∷ pos 0 ∷ pos 0 ∷ pos 1 ∷ pos 1 ∷ []) (3 ∷ 9 ∷ 1 ∷ []) (3 ∷ 9 ∷ 1 ∷ [])
+    -- I: answer 1 2 3
+    ∷ case 5 (pos 3 ∷ pos 1 ∷ pos 1 ∷ pos 1 ∷ pos 65535 ∷ pos 2 ∷ pos 65535 ∷ pos 1 ∷ pos 1 ∷ pos 2 ∷ pos 3 ∷ pos 1 ∷ pos 1 ∷ pos 0 ∷ pos 0 ∷ pos 0 ∷ pos 1 ∷ pos 2 ∷ pos 0 ∷ pos 0 ∷ pos 0 ∷ pos 1 ∷ pos 3 ∷ pos 0 ∷ pos 0 ∷ pos 1 ∷ pos 1 ∷ []) (0 ∷ 0 ∷ 0 ∷ 1 ∷ 2 ∷ 3 ∷ []) (0 ∷ 0 ∷ 0 ∷ 1 ∷ 2 ∷ 3 ∷ [])
+    -- I with threshold 65,536: answer 1 2
+    ∷ case 5 (pos 3 ∷ pos 1 ∷ pos 1 ∷ pos 1 ∷ pos 65536 ∷ pos 2 ∷ pos 65535 ∷ pos 1 ∷ pos 1 ∷ pos 2 ∷ pos 3 ∷ pos 1 ∷ pos 1 ∷ pos 0 ∷ pos 0 ∷ pos 0 ∷ pos 1 ∷ pos 2 ∷ pos 0 ∷ pos 0 ∷ pos 0 ∷ pos 1 ∷ pos 3 ∷ pos 0 ∷ pos 0 ∷ pos 1 ∷ pos 1 ∷ []) (0 ∷ 0 ∷ 0 ∷ 1 ∷ 2 ∷ []) (0 ∷ 0 ∷ 0 ∷ 1 ∷ 2 ∷ [])
+    -- K: no words: refused 2, place 0
+    ∷ case 5 ([]) (3 ∷ 2 ∷ 0 ∷ []) (3 ∷ 2 ∷ 0 ∷ [])
+    -- K: words 257: refused 4, place 0
+    ∷ case 5 (pos 257 ∷ []) (3 ∷ 4 ∷ 0 ∷ []) (3 ∷ 4 ∷ 0 ∷ [])
+    -- K: words 0 0 0 0: refused 3, place 3
+    ∷ case 5 (pos 0 ∷ pos 0 ∷ pos 0 ∷ pos 0 ∷ []) (3 ∷ 3 ∷ 3 ∷ []) (3 ∷ 3 ∷ 3 ∷ [])
+    -- the worked example: answer 6 1: 2 3 5 7; the plain search opens 7 choices
+    ∷ case 100 (pos 8 ∷ pos 0 ∷ pos 8 ∷ pos 2 ∷ pos 1 ∷ pos 2 ∷ pos 0 ∷ pos 0 ∷ pos 0 ∷ pos 2 ∷ pos 3 ∷ pos 4 ∷ pos 0 ∷ pos 0 ∷ pos 0 ∷ pos 2 ∷ pos 5 ∷ pos 6 ∷ pos 0 ∷ pos 0 ∷ pos 0 ∷ pos 2 ∷ pos 7 ∷ pos 8 ∷ pos 0 ∷ pos 0 ∷ pos 0 ∷ pos 0 ∷ pos 3 ∷ pos 1 ∷ pos 5 ∷ pos 7 ∷ pos 0 ∷ pos 0 ∷ pos 0 ∷ pos 3 ∷ pos 1 ∷ pos 5 ∷ pos 8 ∷ pos 0 ∷ pos 0 ∷ pos 0 ∷ pos 3 ∷ pos 1 ∷ pos 6 ∷ pos 7 ∷ pos 0 ∷ pos 0 ∷ pos 0 ∷ pos 3 ∷ pos 1 ∷ pos 6 ∷ pos 8 ∷ pos 0 ∷ pos 0 ∷ []) (0 ∷ 6 ∷ 1 ∷ 2 ∷ 3 ∷ 5 ∷ 7 ∷ []) (0 ∷ 7 ∷ 0 ∷ 2 ∷ 3 ∷ 5 ∷ 7 ∷ [])
+    -- the worked example with limit 5: limit 5 1
+    ∷ case 5 (pos 8 ∷ pos 0 ∷ pos 8 ∷ pos 2 ∷ pos 1 ∷ pos 2 ∷ pos 0 ∷ pos 0 ∷ pos 0 ∷ pos 2 ∷ pos 3 ∷ pos 4 ∷ pos 0 ∷ pos 0 ∷ pos 0 ∷ pos 2 ∷ pos 5 ∷ pos 6 ∷ pos 0 ∷ pos 0 ∷ pos 0 ∷ pos 2 ∷ pos 7 ∷ pos 8 ∷ pos 0 ∷ pos 0 ∷ pos 0 ∷ pos 0 ∷ pos 3 ∷ pos 1 ∷ pos 5 ∷ pos 7 ∷ pos 0 ∷ pos 0 ∷ pos 0 ∷ pos 3 ∷ pos 1 ∷ pos 5 ∷ pos 8 ∷ pos 0 ∷ pos 0 ∷ pos 0 ∷ pos 3 ∷ pos 1 ∷ pos 6 ∷ pos 7 ∷ pos 0 ∷ pos 0 ∷ pos 0 ∷ pos 3 ∷ pos 1 ∷ pos 6 ∷ pos 8 ∷ pos 0 ∷ pos 0 ∷ []) (2 ∷ 5 ∷ 1 ∷ []) (2 ∷ 5 ∷ 0 ∷ [])
+    ∷ []
