@@ -1,2 +1,3 @@
 -- What is proved of the cases. Assumes nothing.
 pub mod Table
+pub mod Solved
