@@ -105,7 +105,7 @@ pub fn fill(t: &[i32], tb: Table, added: bool, known: &mut Known)
         let to = targets(t, tb, added, at);
         let head = layout::part(t, at);
         from_each(head, to, known);
-        let next = crate::rules::past_rule(t, at);
+        let next = layout::past_rule(t, at);
         at = next;
         left -= 1;
     }

@@ -113,7 +113,7 @@ pub fn adds(t: &[i32], tb: Table, known: &Known, at: usize) -> bool
     requires { ⌜ Laid (now t) tb × RuleLies (tb .atoms) (tb .aggregates) (now t) at ⌝ }
     ensures { λ r. ⌜ r ≡ returned (reach (now (known .entry))) (ruleAt (now (t .entry)) at .head) (ruleAt (now (t .entry)) at .aggs) ⌝ }
 {
-    let place = crate::rules::literals_at(t, at);
+    let place = layout::literals_at(t, at);
     let head = layout::part(t, at);
     let l = layout::part(t, place);
     head_reached(t, tb, known, head, l)
@@ -132,7 +132,7 @@ pub fn first_head(t: &[i32], tb: Table, known: &Known) -> Place
         if crossed(known, head) {
             return Place::At(number);
         }
-        let next = crate::rules::past_rule(t, at);
+        let next = layout::past_rule(t, at);
         at = next;
         number += 1;
         left -= 1;
@@ -152,7 +152,7 @@ pub fn first_aggregate(t: &[i32], tb: Table, known: &Known) -> Place
         if adds(t, tb, known, at) {
             return Place::At(number);
         }
-        let next = crate::rules::past_rule(t, at);
+        let next = layout::past_rule(t, at);
         at = next;
         number += 1;
         left -= 1;

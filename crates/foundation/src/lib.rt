@@ -178,7 +178,7 @@ pub fn walk(t: &[i32], tb: Table, values: &[u8; 256], mut marks: [u8; 256]) -> W
                 changed = true;
             }
         }
-        at = rules::past_rule(t, at);
+        at = layout::past_rule(t, at);
         left -= 1;
     }
     Walked { marks, changed }
@@ -248,7 +248,7 @@ pub fn is_model(t: &[i32], tb: Table, values: &[u8; 256]) -> bool
         if rules::is_conflict(d) {
             return false;
         }
-        at = rules::past_rule(t, at);
+        at = layout::past_rule(t, at);
         left -= 1;
     }
     true

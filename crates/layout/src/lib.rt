@@ -4,7 +4,7 @@ ghost use mathlib.Core.Path.{_≡_};
 ghost use Prim.Native.Nat.{_+_, _-_, _*_, _≤_, _<_};
 ghost use lib.ListN.{length, getD};
 ghost use lib.IntN.{natAbs, pos};
-ghost use Rattle.layout.specs.Layout.{natAt, partAt, pastAt, functionBy, comparisonBy, pairsAt, pastAggregate};
+ghost use Rattle.layout.specs.Layout.{natAt, partAt, pastAt, functionBy, comparisonBy, pairsAt, pastAggregate, aggsAt, pastRule};
 use meaning::Comparison;
 use meaning::Function;
 
@@ -36,6 +36,25 @@ pub fn past(t: &[i32], at: usize) -> usize
 {
     let n = words::atom(t, at);
     at + 1 + n
+}
+
+// Where the aggregate literals stand of the rule that begins at `at`.
+pub fn literals_at(t: &[i32], at: usize) -> usize
+    requires { ⌜ aggsAt (now t) at ≤ length (now t) ⌝ }
+    ensures { λ r. ⌜ r ≡ aggsAt (now (t .entry)) at ⌝ }
+{
+    let positive = past(t, at);
+    let negated = past(t, positive);
+    past(t, negated)
+}
+
+// The index past that rule.
+pub fn past_rule(t: &[i32], at: usize) -> usize
+    requires { ⌜ pastRule (now t) at ≤ length (now t) ⌝ }
+    ensures { λ r. ⌜ r ≡ pastRule (now (t .entry)) at ⌝ }
+{
+    let literals = literals_at(t, at);
+    past(t, literals)
 }
 
 // The pairs of value and atom of the aggregate that begins at `at`, as a part of the table.

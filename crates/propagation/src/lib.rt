@@ -94,7 +94,7 @@ pub fn propagate(t: &[i32], tb: Table, it0: Interpretation, rows0: [[u64; 4]; 25
                     changed = true;
                 }
             }
-            at = rules::past_rule(t, at);
+            at = layout::past_rule(t, at);
             left -= 1;
         }
         let mut p: usize = 1;

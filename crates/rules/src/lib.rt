@@ -8,7 +8,7 @@ ghost use Prim.Native.Nat.{_≤_};
 ghost use lib.ListN.{length};
 ghost use Rattle.levels.specs.View.{row, rows};
 ghost use Rattle.interpretation.specs.View.{valued};
-ghost use Rattle.layout.specs.Layout.{Laid, Members, Listed, RuleLies, partAt, pastRule, ruleAt};
+ghost use Rattle.layout.specs.Layout.{Laid, Members, Listed, RuleLies, partAt, ruleAt};
 ghost use Rattle.valuing.specs.Reasons.{reasonsOf};
 ghost use Rattle.steps.specs.Steps.{headLits, bodyLits};
 ghost use Rattle.literals.specs.Scan.{atomLits, literalLits};
@@ -90,17 +90,6 @@ pub fn literals_ask(t: &[i32], tb: Table, l: &[i32], values: &[u8; 256]) -> Step
         Scan::One(_) => Step::Nothing,
         Scan::More => Step::Nothing,
     }
-}
-
-// The index past the rule that begins at `at`.
-pub fn past_rule(t: &[i32], at: usize) -> usize
-    requires { ⌜ pastRule (now t) at ≤ length (now t) ⌝ }
-    ensures { λ r. ⌜ r ≡ pastRule (now (t .entry)) at ⌝ }
-{
-    let i = layout::past(t, at);
-    let j = layout::past(t, i);
-    let k = layout::past(t, j);
-    layout::past(t, k)
 }
 
 // What part of a rule asks, with the list of atoms at `at` too.

@@ -8,7 +8,7 @@ ghost use Prim.Native.Nat.{_≤_, _<_};
 ghost use lib.ListN.{length};
 ghost use Rattle.levels.specs.View.{row, rows};
 ghost use Rattle.interpretation.specs.View.{valued};
-ghost use Rattle.layout.specs.Layout.{Laid, Members, RuleLies, RulesLie, aggsAt, pastRule, ruleAt, programOf};
+ghost use Rattle.layout.specs.Layout.{Laid, Members, RuleLies, RulesLie, pastRule, ruleAt, programOf};
 ghost use Rattle.valuing.specs.Reasons.{reasonOf};
 ghost use Rattle.literals.specs.Scan.{literalLits, scanOf};
 ghost use Rattle.support.specs.Asking.{witnessOf, supportsOf, refutedBy, bodyWitness, witnessAt, firstRule, forcedOf, soleBy, askOf, blamedBy, blameOf};
@@ -43,25 +43,6 @@ pub enum Witness {
 pub enum Place {
     Nowhere,
     At(usize, usize),
-}
-
-// Where the aggregate literals of the rule at `at` stand.
-pub fn literals_at(t: &[i32], at: usize) -> usize
-    requires { ⌜ aggsAt (now t) at ≤ length (now t) ⌝ }
-    ensures { λ r. ⌜ r ≡ aggsAt (now (t .entry)) at ⌝ }
-{
-    let second = layout::past(t, at);
-    let third = layout::past(t, second);
-    layout::past(t, third)
-}
-
-// The index past the rule at `at`.
-pub fn past_rule(t: &[i32], at: usize) -> usize
-    requires { ⌜ pastRule (now t) at ≤ length (now t) ⌝ }
-    ensures { λ r. ⌜ r ≡ pastRule (now (t .entry)) at ⌝ }
-{
-    let fourth = literals_at(t, at);
-    layout::past(t, fourth)
 }
 
 // The atom that step e sets next at the rule at `at`: "that rule's other undefined head atoms become false, then its positive body atoms still undefined
@@ -169,7 +150,7 @@ pub fn first_support(
         if supports(t, tb, at, p, values) {
             return Place::At(at, left);
         }
-        let next = past_rule(t, at);
+        let next = layout::past_rule(t, at);
         at = next;
     }
     Place::Nowhere
@@ -184,7 +165,7 @@ pub fn sole(t: &[i32], tb: Table, at: usize, left: usize, p: usize, values: &[u8
     match f {
         Next::Nothing => Ask::Nothing,
         Next::Set(_, _) => {
-            let next = past_rule(t, at);
+            let next = layout::past_rule(t, at);
             let s = first_support(t, tb, next, left, p, values);
             match s {
                 Place::Nowhere => Ask::Sole(at),
@@ -239,7 +220,7 @@ pub fn blamed(
             Witness::Nobody => more,
             Witness::Atom(q) => literals::atom_reason(q, values, reasons, more),
             Witness::Literal(k) => {
-                let place = literals_at(t, at);
+                let place = layout::literals_at(t, at);
                 let l = layout::part(t, place);
                 literals::literal_reason(t, tb, l, k, values, reasons, more)
             }
@@ -266,7 +247,7 @@ pub fn blame(
         left -= 1;
         let more = blamed(t, tb, at, p, values, reasons, acc);
         acc = more;
-        let next = past_rule(t, at);
+        let next = layout::past_rule(t, at);
         at = next;
     }
     acc

@@ -39,7 +39,7 @@ use Rattle.outcome.proofs.rows_of.Reads as rows-of-reads
 use Rattle.propagation.proofs.force.Reads as force-reads
 use Rattle.propagation.proofs.whole_reason.Reads as whole-reason-reads
 use Rattle.rules.proofs.demand.Reads as demand-reads
-use Rattle.rules.proofs.past_rule.Reads as past-rule-reads
+use Rattle.layout.proofs.past_rule.Reads as past-rule-reads
 use Rattle.rules.proofs.reason.Reads as reason-reads
 use Rattle.support.proofs.asked.Reads as asked-reads
 use Rattle.support.proofs.blame.Reads as blame-reads

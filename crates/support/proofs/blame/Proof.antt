@@ -16,7 +16,7 @@ use Rattle.support.proofs.blame.Reads as reads
 use Rattle.support.proofs.blame.Lts as lts
 use Rattle.levels.proofs.empty.Reads as empty-reads
 use Rattle.support.proofs.blamed.Reads as blamed-reads
-use Rattle.support.proofs.past_rule.Reads as past-rule-reads
+use Rattle.layout.proofs.past_rule.Reads as past-rule-reads
 
 abbrev Inv-loop : tie.InvT-loop
 Inv-loop t tb p values reasons acc₀ at₀ left₀ acc at left =

@@ -27,7 +27,7 @@ use Rattle.layout.proofs.part.Reads as part-reads
 use Rattle.literals.proofs.atom_reason.Reads as atom-reason-reads
 use Rattle.literals.proofs.literal_reason.Reads as literal-reason-reads
 use Rattle.support.proofs.atoms.has_atom.Reads as has-atom-reads
-use Rattle.support.proofs.literals_at.Reads as literals-at-reads
+use Rattle.layout.proofs.literals_at.Reads as literals-at-reads
 use Rattle.support.proofs.witness_of.Reads as witness-of-reads
 
 inside : (c : tie.After-part) → let a = c .before .args in RuleIn (a .tb .atoms) (ruleAt (a .t .now) (a .at))

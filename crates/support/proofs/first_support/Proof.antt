@@ -11,7 +11,7 @@ use Rattle.support.proofs.first_support.Statement.{statement}
 use Rattle.support.proofs.first_support.Tie as tie
 use Rattle.support.proofs.first_support.Reads as reads
 use Rattle.support.proofs.first_support.Lts as lts
-use Rattle.support.proofs.past_rule.Reads as past-rule-reads
+use Rattle.layout.proofs.past_rule.Reads as past-rule-reads
 use Rattle.support.proofs.supports.Reads as supports-reads
 
 abbrev Inv-loop : tie.InvT-loop

@@ -15,7 +15,7 @@ use Rattle.support.proofs.sole.Reads as reads
 use Rattle.support.proofs.sole.Lts as lts
 use Rattle.support.proofs.first_support.Reads as first-support-reads
 use Rattle.support.proofs.forced.Reads as forced-reads
-use Rattle.support.proofs.past_rule.Reads as past-rule-reads
+use Rattle.layout.proofs.past_rule.Reads as past-rule-reads
 
 -- the rules after the one at hand
 after : (c : tie.After-first-support) → let a = c .before .before .before .before .before .args in

@@ -11,7 +11,7 @@ use Rattle.depend.proofs.cycles.adds.Statement.{statement}
 use Rattle.depend.proofs.cycles.adds.Tie as tie
 
 literals-at-requires : tie.Need-literals-at-requires
-literals-at-requires c κs = c .pre .1 .aggs .fits
+literals-at-requires c κs = c .pre .1 .negs .fits
 
 part-requires : tie.Need-part-requires
 part-requires c κs = c .before .pre .1 .heads .fits

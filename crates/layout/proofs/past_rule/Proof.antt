@@ -1,25 +1,18 @@
--- `support::past_rule` meets its contract. Assumes nothing.
+-- `layout::past_rule` meets its contract. Assumes nothing.
 use mathlib.Core.Path.{_≡_, refl, sym, ap, _∙_}
 use Prim.Native.Nat.{ℕ, _+_, _≤_}
 use native.Mathlib.Omega.{arith}
 use Rattle.layout.specs.Layout.{pastAt}
 use borrow.Author.Needs.{needs}
-use Rattle.support.proofs.past_rule.Statement.{statement}
-use Rattle.support.proofs.past_rule.Tie as tie
-use Rattle.support.proofs.past_rule.Reads as reads
-use Rattle.support.proofs.past_rule.Lts as lts
-use Rattle.layout.proofs.past.Reads as past-reads
-use Rattle.support.proofs.literals_at.Reads as literals-at-reads
+use Rattle.layout.proofs.past_rule.Statement.{statement}
+use Rattle.layout.proofs.past_rule.Tie as tie
 
--- src/lib.rt:129:9
 literals-at-requires : tie.Need-literals-at-requires
 literals-at-requires c κs = search needs
 
--- src/lib.rt:130:5
 past-requires : tie.Need-past-requires
 past-requires c κs = rw (c .literals-at .ensures) (c .before .pre)
 
--- src/lib.rt:125:1
 returns : tie.Need-returns
 returns c =
     let t = c .before .before .args .t .now in
