@@ -4,7 +4,7 @@
     python3 tools/lines.py LINES OUT BASELINE     writes OUT/texts.bin and OUT/texts.stdout
 
 LINES has an input on one line and on the next, after `= `, what 01's definition prints (what stands after
-` | plain:` is for other uses and is dropped). To these come 01's example, texts at the edges of what a number
+` | plain:` is for other uses and is dropped). To these come 01's example and cases, texts at the edges of what a number
 is, whose tables have no atoms or are refused, so that their lines need no search, and some larger tables,
 for which BASELINE (bench/src/check.rs built) prints the line.
 
@@ -34,6 +34,24 @@ def example():
     table += b"0 3 1 5 7 0 0  0 3 1 5 8 0 0  0 3 1 6 7 0 0  0 3 1 6 8 0 0\n"
     return [(b"100 " + table, "answer 6 1: 2 3 5 7"), (b"6 " + table, "answer 6 1: 2 3 5 7"),
             (b"5 " + table, "limit 5 1")]
+
+
+def cases():
+    """01's cases A to N, with limit 100 where it names none."""
+    loop = "2 0 3  2 1 2 0 0 0  1 1 1 2 0 0  1 2 1 1 0 0"
+    three = "3 1  %s 1 %s 2 %s 1 1 2  3  1 1 0 0 0  1 2 0 0 0  1 3 0 0 1 1"
+    least = "2 1  2 1 3 1 5 1  1  1 2 0 0 1 %s"
+    pairs = [("0 0 0 0", "answer 0 0:"), ("100 1 0 1  1 1 0 1 1 0", "none 1 0"), ("0 1 0 1  1 1 0 1 1 0", "limit 0 0")]
+    pairs += [("100 2 0 2  1 1 1 2 0 0  1 2 1 1 0 0", "answer 1 0:"), ("100 2 0 1  2 1 2 0 0 0", "answer 1 0: 1")]
+    pairs += [("100 " + loop, "refused 8 1")]
+    pairs += [("100 " + three % (0, 1, 1), "answer 0 0: 1 2 3"), ("100 " + three % (0, 2, 1), "answer 0 0: 1 2")]
+    pairs += [("100 " + least % 1, "answer 0 0:"), ("100 " + least % -1, "answer 0 0: 2")]
+    pairs += [("100 1 1  0 1 0 1 1 1  1  1 1 0 0 1 1", "refused 9 1")]
+    pairs += [("100 " + three % (1, 65535, 65535), "answer 0 0: 1 2 3"), ("100 " + three % (1, 65536, 65535), "answer 0 0: 1 2")]
+    pairs += [("100", "refused 2 0"), ("100 257", "refused 4 0"), ("100 0 0 0 0", "refused 3 3")]
+    pairs += [("100 256 0 0", "answer 0 0:"), ("100 0 0 1 0 0 0 0", "none 0 0")]
+    pairs += [("100 1 0 1 1 2 0 0 0", "refused 5 4"), ("100 2 0 1 2 2 1 0 0 0", "refused 6 5")]
+    return [(text.encode() + b"\n", expected) for text, expected in pairs]
 
 
 def edges():
@@ -125,7 +143,7 @@ def main():
     if len(sys.argv) != 4:
         sys.exit(__doc__)
     lines, out, baseline = sys.argv[1:]
-    pairs = from_lines(lines) + example() + edges()
+    pairs = from_lines(lines) + example() + cases() + edges()
     wrong = [(text[:60], expected) for text, expected in pairs if printed(baseline, text) != expected]
     if wrong:
         sys.exit(f"the baseline prints other lines: {wrong}")

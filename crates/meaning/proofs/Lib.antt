@@ -12,4 +12,5 @@ pub mod Closure
 pub mod Unfounded
 pub mod Theorem
 pub mod Cycles
+pub mod Enumerated
 pub mod Tested

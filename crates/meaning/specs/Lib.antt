@@ -1,4 +1,4 @@
--- What a program means (01, "Meaning"), in reading order. `Program` to `Foundedness` are to be believed; `Cycles` holds tests that are proved exact.
+-- What a program means (01, "Meaning"), in reading order. `Program` to `Foundedness` are to be believed; `Cycles` and `Enumerated` hold tests that are proved exact.
 pub mod Lists
 pub mod Cond
 pub mod Program
@@ -7,3 +7,4 @@ pub mod Answers
 pub mod Dependency
 pub mod Foundedness
 pub mod Cycles
+pub mod Enumerated

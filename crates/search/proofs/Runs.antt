@@ -1,7 +1,6 @@
--- 01's cases, its worked example and vectors of an implementation that shares nothing with these definitions, run by computation: one table and
--- one computed test for each group, in both modes. A case is the limit, the number of atoms, the program, what the jumping search reports and what the
--- plain one reports (0 answer, 1 none, 2 limit; choices; skips; true atoms). Printed by a script from the words of the table.
--- Assumes nothing.
+-- Vectors of an implementation that shares nothing with these definitions, run by computation in both modes: one table and one computed test. A vector is the
+-- limit, the number of atoms, the program, what the jumping search reports and what the plain one reports (0 answer, 1 none, 2 limit; choices; skips; true atoms).
+-- 01's own cases are the table of crate `cases`. Assumes nothing.
 use mathlib.Core.Path.{_≡_, refl}
 use mathlib.Core.Bool.{Bool, true, false}
 use mathlib.Core.List.{List, [], _∷_}
@@ -15,9 +14,7 @@ use Rattle.meaning.specs.Answers.{body, literal}
 use Rattle.meaning.specs.Aggregates.{compared}
 use Rattle.meaning.specs.declared.Function.the-variants.{Count, Sum, Min, Max}
 use Rattle.meaning.specs.declared.Comparison.the-variants.{Less, Greater}
-use Rattle.meaning.specs.Dependency.{arc, anyArc, addedArc, occurs}
 use Rattle.meaning.specs.Program.{Literal}
-use Rattle.meaning.specs.Cycles.{via, mutually, headCycle, returns, aggregateCycle, ruleInside, accepted}
 use Rattle.interpretation.specs.State.{Cell, undefined, defined, undone, lowest}
 use Rattle.search.specs.Search.{jump, trues, branches, turn, run, solve}
 use Rattle.levels.specs.Levels.{highest}
@@ -26,104 +23,7 @@ use Rattle.valuing.specs.Values.{aggregateValue, literalValue}
 use Rattle.valuing.specs.Reasons.{reasonOf}
 use Rattle.steps.specs.Steps.{propagate}
 use Rattle.search.specs.Base.{pinned}
-use Rattle.search.specs.Shown.{Case, asReported, isAccepted, shown, rule, lit, agg, _∶_, case}
-
--- ---- the cases of 01 that are accepted
-
-abbrev cases : List Case
-cases =
-    -- A
-    case 0 0
-    ([])
-    (0 ∷ 0 ∷ 0 ∷ [])
-    (0 ∷ 0 ∷ 0 ∷ [])
-    -- B
-    ∷ case 5 1
-    (rule (1 ∷ []) [] (1 ∷ []) [] ∷ [])
-    (1 ∷ 1 ∷ 0 ∷ [])
-    (1 ∷ 1 ∷ 0 ∷ [])
-    -- B, limit 0
-    ∷ case 0 1
-    (rule (1 ∷ []) [] (1 ∷ []) [] ∷ [])
-    (2 ∷ 0 ∷ 0 ∷ [])
-    (2 ∷ 0 ∷ 0 ∷ [])
-    -- B, limit 1
-    ∷ case 1 1
-    (rule (1 ∷ []) [] (1 ∷ []) [] ∷ [])
-    (1 ∷ 1 ∷ 0 ∷ [])
-    (1 ∷ 1 ∷ 0 ∷ [])
-    -- C
-    ∷ case 5 2
-    (rule (1 ∷ []) (2 ∷ []) [] [] ∷ rule (2 ∷ []) (1 ∷ []) [] [] ∷ [])
-    (0 ∷ 1 ∷ 0 ∷ [])
-    (0 ∷ 1 ∷ 0 ∷ [])
-    -- D
-    ∷ case 5 2
-    (rule (1 ∷ 2 ∷ []) [] [] [] ∷ [])
-    (0 ∷ 1 ∷ 0 ∷ 1 ∷ [])
-    (0 ∷ 1 ∷ 0 ∷ 1 ∷ [])
-    -- F
-    ∷ case 5 3
-    (rule (1 ∷ []) [] [] [] ∷ rule (2 ∷ []) [] [] [] ∷ rule (3 ∷ []) [] [] ((lit true (agg Count Greater (pos 1) ((1 ∶ 1) ∷ (1 ∶ 2) ∷ []))) ∷ [])
-    ∷ [])
-    (0 ∷ 0 ∷ 0 ∷ 1 ∷ 2 ∷ 3 ∷ [])
-    (0 ∷ 0 ∷ 0 ∷ 1 ∷ 2 ∷ 3 ∷ [])
-    -- F, threshold 2
-    ∷ case 5 3
-    (rule (1 ∷ []) [] [] [] ∷ rule (2 ∷ []) [] [] [] ∷ rule (3 ∷ []) [] [] ((lit true (agg Count Greater (pos 2) ((1 ∶ 1) ∷ (1 ∶ 2) ∷ []))) ∷ [])
-    ∷ [])
-    (0 ∷ 0 ∷ 0 ∷ 1 ∷ 2 ∷ [])
-    (0 ∷ 0 ∷ 0 ∷ 1 ∷ 2 ∷ [])
-    -- G
-    ∷ case 5 2
-    (rule (2 ∷ []) [] [] ((lit true (agg Min Greater (pos 3) ((5 ∶ 1) ∷ []))) ∷ []) ∷ [])
-    (0 ∷ 0 ∷ 0 ∷ [])
-    (0 ∷ 0 ∷ 0 ∷ [])
-    -- G, negated
-    ∷ case 5 2
-    (rule (2 ∷ []) [] [] ((lit false (agg Min Greater (pos 3) ((5 ∶ 1) ∷ []))) ∷ []) ∷ [])
-    (0 ∷ 0 ∷ 0 ∷ 2 ∷ [])
-    (0 ∷ 0 ∷ 0 ∷ 2 ∷ [])
-    -- I
-    ∷ case 5 3
-    (rule (1 ∷ []) [] [] [] ∷ rule (2 ∷ []) [] [] []
-    ∷ rule (3 ∷ []) [] [] ((lit true (agg Sum Greater (pos 65535) ((65535 ∶ 1) ∷ (1 ∶ 2) ∷ []))) ∷ []) ∷ [])
-    (0 ∷ 0 ∷ 0 ∷ 1 ∷ 2 ∷ 3 ∷ [])
-    (0 ∷ 0 ∷ 0 ∷ 1 ∷ 2 ∷ 3 ∷ [])
-    -- I, threshold 65,536
-    ∷ case 5 3
-    (rule (1 ∷ []) [] [] [] ∷ rule (2 ∷ []) [] [] []
-    ∷ rule (3 ∷ []) [] [] ((lit true (agg Sum Greater (pos 65536) ((65535 ∶ 1) ∷ (1 ∶ 2) ∷ []))) ∷ []) ∷ [])
-    (0 ∷ 0 ∷ 0 ∷ 1 ∷ 2 ∷ [])
-    (0 ∷ 0 ∷ 0 ∷ 1 ∷ 2 ∷ [])
-    -- the worked example
-    ∷ case 100 8
-    (rule (1 ∷ 2 ∷ []) [] [] [] ∷ rule (3 ∷ 4 ∷ []) [] [] [] ∷ rule (5 ∷ 6 ∷ []) [] [] [] ∷ rule (7 ∷ 8 ∷ []) [] [] []
-    ∷ rule [] (1 ∷ 5 ∷ 7 ∷ []) [] [] ∷ rule [] (1 ∷ 5 ∷ 8 ∷ []) [] [] ∷ rule [] (1 ∷ 6 ∷ 7 ∷ []) [] [] ∷ rule [] (1 ∷ 6 ∷ 8 ∷ []) [] [] ∷ [])
-    (0 ∷ 6 ∷ 1 ∷ 2 ∷ 3 ∷ 5 ∷ 7 ∷ [])
-    (0 ∷ 7 ∷ 0 ∷ 2 ∷ 3 ∷ 5 ∷ 7 ∷ [])
-    -- the worked example, limit 5
-    ∷ case 5 8
-    (rule (1 ∷ 2 ∷ []) [] [] [] ∷ rule (3 ∷ 4 ∷ []) [] [] [] ∷ rule (5 ∷ 6 ∷ []) [] [] [] ∷ rule (7 ∷ 8 ∷ []) [] [] []
-    ∷ rule [] (1 ∷ 5 ∷ 7 ∷ []) [] [] ∷ rule [] (1 ∷ 5 ∷ 8 ∷ []) [] [] ∷ rule [] (1 ∷ 6 ∷ 7 ∷ []) [] [] ∷ rule [] (1 ∷ 6 ∷ 8 ∷ []) [] [] ∷ [])
-    (2 ∷ 5 ∷ 1 ∷ [])
-    (2 ∷ 5 ∷ 0 ∷ [])
-    -- M
-    ∷ case 5 0
-    (rule [] [] [] [] ∷ [])
-    (1 ∷ 0 ∷ 0 ∷ [])
-    (1 ∷ 0 ∷ 0 ∷ [])
-    -- a chain, which takes N + 1 passes: 1 :- 2. 2 :- 3. .. 6.
-    ∷ case 5 6
-    (rule (1 ∷ []) (2 ∷ []) [] [] ∷ rule (2 ∷ []) (3 ∷ []) [] [] ∷ rule (3 ∷ []) (4 ∷ []) [] [] ∷ rule (4 ∷ []) (5 ∷ []) [] []
-    ∷ rule (5 ∷ []) (6 ∷ []) [] [] ∷ rule (6 ∷ []) [] [] [] ∷ [])
-    (0 ∷ 0 ∷ 0 ∷ 1 ∷ 2 ∷ 3 ∷ 4 ∷ 5 ∷ 6 ∷ [])
-    (0 ∷ 0 ∷ 0 ∷ 1 ∷ 2 ∷ 3 ∷ 4 ∷ 5 ∷ 6 ∷ [])
-    ∷ []
-
-cases-as-reported : Is (all asReported cases)
-unfolding undone lowest highest trues branches turn run solve ifLt ifEq has supports onlyHead body literal compared aggregateValue literalValue reasonOf propagate founded
-cases-as-reported = refl
+use Rattle.search.specs.Shown.{Case, asReported, shown, rule, lit, agg, _∶_, case}
 
 -- ---- vectors with aggregates
 
@@ -313,21 +213,6 @@ vectors =
 vectors-as-reported : Is (all asReported vectors)
 unfolding undone lowest highest trues branches turn run solve ifLt ifEq has supports onlyHead body literal compared aggregateValue literalValue reasonOf propagate founded
 vectors-as-reported = refl
-
--- ---- the programs are accepted, so the theorems hold of them
-
-cases-accepted : Is (all isAccepted cases)
-unfolding accepted ruleInside headCycle mutually aggregateCycle returns via arc anyArc addedArc occurs has
-cases-accepted = refl
-
--- E and H are not: a head cycle, an aggregate cycle
-case-E : accepted 2 (rule (1 ∷ 2 ∷ []) [] [] [] ∷ rule (1 ∷ []) (2 ∷ []) [] [] ∷ rule (2 ∷ []) (1 ∷ []) [] [] ∷ []) ≡ false
-unfolding accepted ruleInside headCycle mutually aggregateCycle returns via arc anyArc addedArc occurs has
-case-E = refl
-
-case-H : accepted 1 (rule (1 ∷ []) [] [] (lit true (agg Count Greater (pos 0) ((1 ∶ 1) ∷ [])) ∷ []) ∷ []) ≡ false
-unfolding accepted ruleInside headCycle mutually aggregateCycle returns via arc anyArc addedArc occurs has
-case-H = refl
 
 -- ---- values in a partial interpretation: min{5:1, 1:2} > 3 and its negation, with atoms 1 and 2 as given
 

@@ -1,0 +1,17 @@
+-- Two stores make the report, where there is room. Assumes nothing.
+use mathlib.Core.Path.{_≡_, refl}
+use mathlib.Core.List.{List, [], _∷_}
+use Prim.Native.Nat.{ℕ, _≤_, _<_}
+use native.Mathlib.Omega.{arith}
+use lib.ListN.{length, set}
+use Rattle.dock.specs.Dock.{reported}
+
+pub short : (m n : ℕ) (l : List ℕ) → length l < 2 → l ≡ reported m n l
+short m n [] h = refl
+short m n (a ∷ []) h = refl
+short m n (a ∷ b ∷ l) h = absurd (omega arith)
+
+pub stored : (m n : ℕ) (l : List ℕ) → 2 ≤ length l → set (set l 0 m) 1 n ≡ reported m n l
+stored m n [] h = absurd (omega arith)
+stored m n (a ∷ []) h = absurd (omega arith)
+stored m n (a ∷ b ∷ l) h = refl

@@ -1,0 +1,68 @@
+-- What the entries of include/saucepebbly.h promise, for every input: what the solver promises of a result, with the result's kind and its two
+-- numbers. Definitions only: to be believed.
+--   kindOf, checkKind      "the result's kind": 0 answer, 1 none, 2 limit, 3 refused; of a check 0 yes, 1 no, 3 refused
+--   firstOf, secondOf      "counts or number and place": choices and skips, of a refusal its number and place
+--   narrow                 a place as 32 bits; places are far below 2 to the 32, a larger one would stand as the largest number
+--   reported               "a lent pair of numbers": the first two places of the report, if it has two; else nothing is written
+--   Solves, Approves       the contracts
+-- Assumes nothing.
+use mathlib.Core.Path.{_≡_}
+use mathlib.Core.List.{List, [], _∷_}
+use Prim.Native.Nat.{ℕ, min}
+use lib.IntN.{ℤ}
+use Rattle.results.specs.Results.{numberOf, placeOf}
+use Rattle.results.specs.declared.Solved.{Solved}
+use Rattle.results.specs.declared.Solved.the-variants as solved
+use Rattle.results.specs.declared.Checked.{Checked}
+use Rattle.results.specs.declared.Checked.the-variants as checked
+use Rattle.solver.specs.Solving.{Solving}
+use Rattle.solver.specs.Approving.{Approving}
+
+abbrev pub kindOf : Solved → ℕ
+kindOf (solved.Answer c s) = 0
+kindOf (solved.Nothing c s) = 1
+kindOf (solved.Limit c s) = 2
+kindOf (solved.Refused f) = 3
+
+abbrev pub checkKind : Checked → ℕ
+checkKind checked.Yes = 0
+checkKind checked.No = 1
+checkKind (checked.Refused f) = 3
+
+abbrev pub narrow : ℕ → ℕ
+narrow n = min n 4294967295
+
+abbrev pub firstOf : Solved → ℕ
+firstOf (solved.Answer c s) = c
+firstOf (solved.Nothing c s) = c
+firstOf (solved.Limit c s) = c
+firstOf (solved.Refused f) = numberOf f
+
+abbrev pub secondOf : Solved → ℕ
+secondOf (solved.Answer c s) = s
+secondOf (solved.Nothing c s) = s
+secondOf (solved.Limit c s) = s
+secondOf (solved.Refused f) = narrow (placeOf f)
+
+abbrev pub reported : ℕ → ℕ → List ℕ → List ℕ
+reported m n [] = []
+reported m n (a ∷ []) = a ∷ []
+reported m n (a ∷ b ∷ rest) = m ∷ n ∷ rest
+
+-- of a check only a refusal is reported
+abbrev pub checkReport : Checked → List ℕ → List ℕ
+checkReport checked.Yes old = old
+checkReport checked.No old = old
+checkReport (checked.Refused f) old = reported (numberOf f) (narrow (placeOf f)) old
+
+pub record Solves (t : List ℤ) (lim : ℕ) (oldPlan newPlan oldReport newReport : List ℕ) (k : ℕ) : Type 0 where
+  pub result : Solved
+  pub solving : Solving t lim oldPlan newPlan result
+  pub kind : k ≡ kindOf result
+  pub report : newReport ≡ reported (firstOf result) (secondOf result) oldReport
+
+pub record Approves (t : List ℤ) (plan oldReport newReport : List ℕ) (k : ℕ) : Type 0 where
+  pub result : Checked
+  pub approving : Approving t plan result
+  pub kind : k ≡ checkKind result
+  pub report : newReport ≡ checkReport result oldReport

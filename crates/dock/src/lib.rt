@@ -1,0 +1,94 @@
+// The entries that C and Rust link, as `include/saucepebbly.h` declares them. A slice is a pointer and a length; that these are what they say and
+// that the lent buffers do not overlap is all that a caller owes. Meaning: `specs/Dock.antt`.
+ghost use mathlib.Core.Path.{_≡_};
+ghost use Rattle.dock.specs.Dock.{kindOf, narrow, firstOf, secondOf, reported, checkReport, checkKind, Solves, Approves};
+use results::Checked;
+use results::Solved;
+
+// The kind of a result.
+fn kind(solved: Solved) -> u32
+    ensures { λ r. ⌜ r ≡ kindOf solved ⌝ }
+{
+    match solved {
+        Solved::Answer(_, _) => 0,
+        Solved::Nothing(_, _) => 1,
+        Solved::Limit(_, _) => 2,
+        Solved::Refused(_) => 3,
+    }
+}
+
+// A place in 32 bits.
+fn narrowed(place: usize) -> u32
+    ensures { λ r. ⌜ r ≡ narrow place ⌝ }
+{
+    if 4294967295 < place {
+        return 4294967295;
+    }
+    place as u32
+}
+
+// The choices, or the number of a refusal.
+fn first(solved: Solved) -> u32
+    ensures { λ r. ⌜ r ≡ firstOf solved ⌝ }
+{
+    match solved {
+        Solved::Answer(choices, _) => choices,
+        Solved::Nothing(choices, _) => choices,
+        Solved::Limit(choices, _) => choices,
+        Solved::Refused(f) => results::number(f),
+    }
+}
+
+// The skips, or the place of a refusal.
+fn second(solved: Solved) -> u32
+    ensures { λ r. ⌜ r ≡ secondOf solved ⌝ }
+{
+    match solved {
+        Solved::Answer(_, skips) => skips,
+        Solved::Nothing(_, skips) => skips,
+        Solved::Limit(_, skips) => skips,
+        Solved::Refused(f) => narrowed(results::place(f)),
+    }
+}
+
+// The two numbers, to a report that has room for both.
+fn write(report: &mut [u32], first: u32, second: u32)
+    ensures { λ _. ⌜ now (report .exit) ≡ reported first second (now (report .entry)) ⌝ }
+{
+    if report.len() < 2 {
+        return;
+    }
+    report[0] = first;
+    report[1] = second;
+}
+
+// The night's plan: the kind of the result, and in the report its two numbers.
+#[no_mangle]
+pub extern "C" fn saucepebbly_solve(
+    words: &[i32],
+    limit: u32,
+    plan: &mut [u8],
+    report: &mut [u32],
+) -> u32
+    ensures { λ k. ⌜ Solves (now (words .entry)) limit (now (plan .entry)) (now (plan .exit)) (now (report .entry)) (now (report .exit)) k ⌝ }
+{
+    let solved = solver::solve(words, limit, plan);
+    write(report, first(solved), second(solved));
+    kind(solved)
+}
+
+// Whether an offered plan is an answer set: the kind of the result, and in the report a refusal's number and place.
+#[no_mangle]
+pub extern "C" fn saucepebbly_approve(words: &[i32], plan: &[u8], report: &mut [u32]) -> u32
+    ensures { λ k. ⌜ Approves (now (words .entry)) (now (plan .entry)) (now (report .entry)) (now (report .exit)) k ⌝ }
+{
+    let checked = solver::approve(words, plan);
+    match checked {
+        Checked::Yes => 0,
+        Checked::No => 1,
+        Checked::Refused(f) => {
+            write(report, results::number(f), narrowed(results::place(f)));
+            3
+        }
+    }
+}
