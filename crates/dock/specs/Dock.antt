@@ -1,6 +1,5 @@
 -- What the entries of include/saucepebbly.h promise, for every input: what the solver promises of a result, with the result's kind and its two
 -- numbers. Definitions only: to be believed.
---   kindOf, checkKind      "the result's kind": 0 answer, 1 none, 2 limit, 3 refused; of a check 0 yes, 1 no, 3 refused
 --   firstOf, secondOf      "counts or number and place": choices and skips, of a refusal its number and place
 --   narrow                 a place as 32 bits; places are far below 2 to the 32, a larger one would stand as the largest number
 --   reported               "a lent pair of numbers": the first two places of the report, if it has two; else nothing is written
@@ -10,24 +9,13 @@ use mathlib.Core.Path.{_≡_}
 use mathlib.Core.List.{List, [], _∷_}
 use Prim.Native.Nat.{ℕ, min}
 use lib.IntN.{ℤ}
-use Rattle.results.specs.Results.{numberOf, placeOf}
+use Rattle.results.specs.Results.{numberOf, placeOf, kindOf, checkKind}
 use Rattle.results.specs.declared.Solved.{Solved}
 use Rattle.results.specs.declared.Solved.the-variants as solved
 use Rattle.results.specs.declared.Checked.{Checked}
 use Rattle.results.specs.declared.Checked.the-variants as checked
 use Rattle.solver.specs.Solving.{Solving}
 use Rattle.solver.specs.Approving.{Approving}
-
-abbrev pub kindOf : Solved → ℕ
-kindOf (solved.Answer c s) = 0
-kindOf (solved.Nothing c s) = 1
-kindOf (solved.Limit c s) = 2
-kindOf (solved.Refused f) = 3
-
-abbrev pub checkKind : Checked → ℕ
-checkKind checked.Yes = 0
-checkKind checked.No = 1
-checkKind (checked.Refused f) = 3
 
 abbrev pub narrow : ℕ → ℕ
 narrow n = min n 4294967295

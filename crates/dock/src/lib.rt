@@ -1,7 +1,8 @@
 // The entries that C and Rust link, as `include/saucepebbly.h` declares them. A slice is a pointer and a length; that these are what they say and
 // that the lent buffers do not overlap is all that a caller owes. Meaning: `specs/Dock.antt`.
 ghost use mathlib.Core.Path.{_≡_};
-ghost use Rattle.dock.specs.Dock.{kindOf, narrow, firstOf, secondOf, reported, checkReport, checkKind, Solves, Approves};
+ghost use Rattle.dock.specs.Dock.{narrow, firstOf, secondOf, reported, checkReport, Solves, Approves};
+ghost use Rattle.results.specs.Results.{kindOf, checkKind};
 use results::Checked;
 use results::Solved;
 

@@ -1,6 +1,7 @@
 -- "When an answer is an enum, a definition states this paper's number and values for each enum case" (01): the refusals' numbers and places,
 -- and what a result reports. Definitions only: to be believed.
 --   numberOf, placeOf    01's table "What comes back": the columns No. and Place
+--   kindOf, checkKind    the kind of a result: "answer, none, limit or refused"; of the check "yes, no or refused"
 --   choicesOf, skipsOf   what a result of solving reports: "for a refusal its number and place with counts 0; otherwise the choices and the skips"
 -- Assumes nothing.
 use Prim.Native.Nat.{ℕ}
@@ -8,6 +9,8 @@ use Rattle.results.specs.declared.Refusal.{Refusal}
 use Rattle.results.specs.declared.Refusal.the-variants as refusal
 use Rattle.results.specs.declared.Solved.{Solved}
 use Rattle.results.specs.declared.Solved.the-variants as solved
+use Rattle.results.specs.declared.Checked.{Checked}
+use Rattle.results.specs.declared.Checked.the-variants as checked
 
 abbrev pub numberOf : Refusal → ℕ
 numberOf refusal.TooManyWords = 1
@@ -38,6 +41,17 @@ placeOf refusal.ShortPlan = 0
 placeOf (refusal.PlanByte i) = i
 placeOf (refusal.BadNumber k) = k
 placeOf refusal.TooManyBytes = 0
+
+abbrev pub kindOf : Solved → ℕ
+kindOf (solved.Answer c s) = 0
+kindOf (solved.Nothing c s) = 1
+kindOf (solved.Limit c s) = 2
+kindOf (solved.Refused f) = 3
+
+abbrev pub checkKind : Checked → ℕ
+checkKind checked.Yes = 0
+checkKind checked.No = 1
+checkKind (checked.Refused f) = 3
 
 abbrev pub choicesOf : Solved → ℕ
 choicesOf (solved.Answer c s) = c

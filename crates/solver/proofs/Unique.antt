@@ -20,6 +20,7 @@ use Rattle.meaning.proofs.Order.{first-unique}
 use Rattle.results.specs.declared.Refusal.{Refusal}
 use Rattle.results.specs.declared.Refusal.the-variants as refusal
 use Rattle.results.specs.declared.Checked.{Checked}
+use Rattle.results.specs.Results.{kindOf}
 use Rattle.results.specs.declared.Solved.{Solved}
 use Rattle.results.specs.declared.Solved.the-variants as solved
 use Rattle.search.specs.Search.{Outcome}
@@ -51,13 +52,6 @@ module _ (t : List ℤ) (lim : ℕ) (old : List ℕ) where
   solving-unique = unique-by (decided t (length old))
 
 -- ---- from the meaning alone
-
--- the kind of a result: answer, none, limit, refused
-abbrev pub kindOf : Solved → ℕ
-kindOf (solved.Answer k s) = 0
-kindOf (solved.Nothing k s) = 1
-kindOf (solved.Limit k s) = 2
-kindOf (solved.Refused f) = 3
 
 module _ (c : Contents) (lim : ℕ) (old : List ℕ) where
   one-answer : (new new′ : List ℕ) (r r′ : Solved) → Meaning c lim old new r → Meaning c lim old new′ r′ → (k s k′ s′ : ℕ) → r ≡ solved.Answer k s → r′ ≡ solved.Answer k′ s′ → new ≡ new′

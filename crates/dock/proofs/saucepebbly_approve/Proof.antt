@@ -4,7 +4,8 @@ use mathlib.Core.Path.{_≡_, sym, ap, _∙_}
 use Prim.Native.Nat.{ℕ}
 use Rattle.results.specs.Results.{numberOf}
 use Rattle.results.specs.declared.Checked.{Checked}
-use Rattle.dock.specs.Dock.{narrow, reported, checkKind, checkReport}
+use Rattle.results.specs.Results.{checkKind}
+use Rattle.dock.specs.Dock.{narrow, reported, checkReport}
 use Rattle.dock.proofs.saucepebbly_approve.Statement.{statement}
 use Rattle.dock.proofs.saucepebbly_approve.Tie as tie
 
