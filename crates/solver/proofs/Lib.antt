@@ -6,4 +6,5 @@ pub mod Bytes
 pub mod Judged
 pub mod Offered
 pub mod Approved
+pub mod Values
 pub mod Unique

@@ -16,7 +16,7 @@ use Rattle.interpretation.specs.State.{Cell, defined, truthOf, Defined}
 use Rattle.interpretation.specs.declared.Value.{Value}
 use Rattle.interpretation.specs.declared.Value.the-variants.{True, False, Undefined}
 use Rattle.valuing.specs.Values.{saysTrue, saysFalse, saysUndefined, opposite, signed, lowestOf, possibly, highestOf, passesAlone, asksEach, between, decide, eachFails, valueBy, aggregateValue, literalValue}
-use Rattle.valuing.specs.Exact.{Completes, Distinct, Right, Both}
+use Rattle.valuing.specs.Exact.{Completes, Distinct, Right, Both, Always, Sometimes}
 use Rattle.meaning.proofs.Tools.{clash, cases, not-is, is-not, not-false, and-i, and-l, and-r, or-l, or-r, or-e, contra, eq, eq-i, or-false}
 use Rattle.meaning.proofs.Least.{values-same}
 use Rattle.valuing.proofs.Compared.{some-i, some-e, each-i, each-e, lowest-completes, highest-completes, from-lowest, to-highest, of-between, of-each}
@@ -244,14 +244,8 @@ literal-decided a l d e = aggregate-decided a (l .aggregate) d (signed-undefined
 -- ---- the three equivalences
 
 module _ (a : ℕ → Cell) (l : Literal) (D : Distinct (l .aggregate .elements)) where
-  abbrev Always : Bool → Type 0
-  Always b = (X : Atoms) → Completes a (l .aggregate .elements) X → literal X l ≡ b
-
-  abbrev Some : Bool → Type 0
-  Some b = (X : Atoms) × Completes a (l .aggregate .elements) X × (literal X l ≡ b)
-
   -- an undefined value stands against an unanimous claim
-  open-not : (b : Bool) → literalValue a l ≡ Undefined → Always b → ⊥
+  open-not : (b : Bool) → literalValue a l ≡ Undefined → Always a l b → ⊥
   open-not b e h = let t = literal-both a l D e in clash (t .0 .2) (h (t .0 .0) (t .0 .1) ∙ sym (h (t .1 .0) (t .1 .1)) ∙ t .1 .2)
 
   value-cases : (v : Value) → (v ≡ True) ⊎ ((v ≡ False) ⊎ (v ≡ Undefined))
@@ -259,30 +253,30 @@ module _ (a : ℕ → Cell) (l : Literal) (D : Distinct (l .aggregate .elements)
   value-cases False = inr (inl refl)
   value-cases Undefined = inr (inr refl)
 
-  pub exact-true : (literalValue a l ≡ True) ↔ Always true
+  pub exact-true : (literalValue a l ≡ True) ↔ Always a l true
   exact-true = (literal-right a l .always, λ h. at h (value-cases (literalValue a l)))
     where
-      at : Always true → (literalValue a l ≡ True) ⊎ ((literalValue a l ≡ False) ⊎ (literalValue a l ≡ Undefined)) → literalValue a l ≡ True
+      at : Always a l true → (literalValue a l ≡ True) ⊎ ((literalValue a l ≡ False) ⊎ (literalValue a l ≡ Undefined)) → literalValue a l ≡ True
       at h (inl e) = e
       at h (inr (inl e)) =
           let c = lowest-completes a (l .aggregate .elements) in
           absurd (clash (h (lowestOf a) c) (literal-right a l .never e (lowestOf a) c))
       at h (inr (inr e)) = absurd (open-not true e h)
 
-  pub exact-false : (literalValue a l ≡ False) ↔ Always false
+  pub exact-false : (literalValue a l ≡ False) ↔ Always a l false
   exact-false = (literal-right a l .never, λ h. at h (value-cases (literalValue a l)))
     where
-      at : Always false → (literalValue a l ≡ True) ⊎ ((literalValue a l ≡ False) ⊎ (literalValue a l ≡ Undefined)) → literalValue a l ≡ False
+      at : Always a l false → (literalValue a l ≡ True) ⊎ ((literalValue a l ≡ False) ⊎ (literalValue a l ≡ Undefined)) → literalValue a l ≡ False
       at h (inl e) =
           let c = lowest-completes a (l .aggregate .elements) in
           absurd (clash (literal-right a l .always e (lowestOf a) c) (h (lowestOf a) c))
       at h (inr (inl e)) = e
       at h (inr (inr e)) = absurd (open-not false e h)
 
-  pub exact-undefined : (literalValue a l ≡ Undefined) ↔ (Some true × Some false)
+  pub exact-undefined : (literalValue a l ≡ Undefined) ↔ (Sometimes a l true × Sometimes a l false)
   exact-undefined = (λ e. literal-both a l D e, λ t. at t (value-cases (literalValue a l)))
     where
-      at : Some true × Some false → (literalValue a l ≡ True) ⊎ ((literalValue a l ≡ False) ⊎ (literalValue a l ≡ Undefined)) → literalValue a l ≡ Undefined
+      at : Sometimes a l true × Sometimes a l false → (literalValue a l ≡ True) ⊎ ((literalValue a l ≡ False) ⊎ (literalValue a l ≡ Undefined)) → literalValue a l ≡ Undefined
       at t (inl e) = absurd (clash (literal-right a l .always e (t .1 .0) (t .1 .1)) (t .1 .2))
       at t (inr (inl e)) = absurd (clash (t .0 .2) (literal-right a l .never e (t .0 .0) (t .0 .1)))
       at t (inr (inr e)) = e

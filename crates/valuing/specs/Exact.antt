@@ -6,7 +6,8 @@ use mathlib.Core.Bool.{Bool, false}
 use mathlib.Core.List.{List}
 use Rattle.meaning.specs.Lists.{Is, _∈_}
 use Rattle.meaning.specs.Aggregates.{Atoms}
-use Rattle.meaning.specs.Program.{Element}
+use Rattle.meaning.specs.Program.{Element, Literal}
+use Rattle.meaning.specs.Answers.{literal}
 use Rattle.interpretation.specs.State.{Cell, defined}
 use Rattle.interpretation.specs.declared.Value.{Value}
 use Rattle.interpretation.specs.declared.Value.the-variants.{True, False, Undefined}
@@ -29,6 +30,17 @@ module _ (a : ℕ → Cell) (es : List Element) (f : Atoms → Bool) (v : Value)
   -- and where it says nothing, there are completions of both kinds
   abbrev pub Both : Type 0
   Both = ((X : Atoms) × Completes a es X × Is (f X)) × ((X : Atoms) × Completes a es X × (f X ≡ false))
+
+-- ---- an aggregate literal
+
+module _ (a : ℕ → Cell) (l : Literal) where
+  -- every completion gives it the value b
+  abbrev pub Always : Bool → Type 0
+  Always b = (X : Atoms) → Completes a (l .aggregate .elements) X → literal X l ≡ b
+
+  -- some completion does
+  abbrev pub Sometimes : Bool → Type 0
+  Sometimes b = (X : Atoms) × Completes a (l .aggregate .elements) X × (literal X l ≡ b)
 
 -- ---- a literal of a rule
 
