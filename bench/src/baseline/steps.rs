@@ -3,7 +3,7 @@
 use super::reasons::Levels;
 use super::search::Search;
 use super::table::Rule;
-use super::values::{Values, FALSE, TRUE, UNDEFINED};
+use super::values::{FALSE, TRUE, UNDEFINED};
 
 /// The reason of a conflict.
 type Conflict = Levels;
@@ -105,26 +105,26 @@ impl<'a> Search<'a> {
         }
     }
 
-    /// Steps d and e for p, true or undefined.
+    /// Steps d and e for p, true or undefined. A second rule that supports it is looked for only where that decides.
     fn atom_steps(&mut self, p: usize) -> Result<(), Conflict> {
         let mut supporting = self.rules_with(p).filter(|rule| self.supports(rule, p));
-        let (first, second) = (supporting.next(), supporting.next());
-        match (first, second) {
-            (None, _) if self.values[p] == TRUE => {
+        match supporting.next() {
+            None if self.values[p] == TRUE => {
                 let mut reason = self.witnesses(p);
                 reason.add(&self.reasons[p]);
                 Err(reason)
             }
-            (None, _) => {
+            None => {
                 let reason = self.witnesses(p);
                 self.set(p, FALSE, reason);
                 Ok(())
             }
-            (Some(rule), None) if self.values[p] == TRUE => {
-                self.follow(rule, p);
+            Some(rule) => {
+                if self.values[p] == TRUE && self.is_open(rule) && supporting.next().is_none() {
+                    self.follow(rule, p);
+                }
                 Ok(())
             }
-            _ => Ok(()),
         }
     }
 
@@ -165,12 +165,13 @@ impl<'a> Search<'a> {
         }
     }
 
+    /// Whether an atom of the rule, in head or body, is undefined.
+    fn is_open(&self, rule: &Rule) -> bool {
+        [rule.head, rule.positive, rule.negated].iter().any(|list| list.iter().any(|&q| self.values[q as usize] == UNDEFINED))
+    }
+
     /// Step e: the only rule that supports the true atom p.
     fn follow(&mut self, rule: &Rule, p: usize) {
-        let is_open = |values: &Values, list: &[i32]| list.iter().any(|&q| values[q as usize] == UNDEFINED);
-        if ![rule.head, rule.positive, rule.negated].iter().any(|list| is_open(&self.values, list)) {
-            return;
-        }
         let mut reason = self.witnesses(p);
         reason.add(&self.reasons[p]);
         for (list, value) in [(rule.head, FALSE), (rule.positive, TRUE), (rule.negated, FALSE)] {
