@@ -7,6 +7,7 @@ pub mod Plain
 pub mod Compare
 pub mod Loop
 pub mod Skips
+pub mod Limit
 pub mod Theorems
 pub mod Single
 pub mod Reasons
