@@ -16,7 +16,7 @@ use Rattle.valuing.specs.Values.{saysTrue, saysFalse, saysUndefined, opposite, 
 use Rattle.steps.specs.Steps.{firstOf, countOf}
 use Rattle.rules.specs.declared.Step.{Step}
 use Rattle.rules.specs.declared.Step.the-variants.{Nothing, Conflict, Set}
-use Rattle.rules.specs.Demand.{becomesFalse, askOf, together, asks, isNothing}
+use Rattle.rules.specs.Demand.{becomesFalse, askOf, together, asks, isNothing, isConflict}
 
 -- ---- together
 
@@ -43,6 +43,22 @@ pub is-nothing : (d : Step) → isNothing d ≡ true → d ≡ Nothing
 is-nothing Nothing h = refl
 is-nothing Conflict h = cc
 is-nothing (Set p v) h = cc
+
+-- beside a literal that is to be set the others must be true
+pub set-conflict : (p : ℕ) (v : Bool) (d : Step) → isConflict d ≡ true → together (Set p v) d ≡ Set p v
+set-conflict p v Nothing h = cc
+set-conflict p v Conflict h = refl
+set-conflict p v (Set q u) h = cc
+
+pub set-other : (p : ℕ) (v : Bool) (d : Step) → isConflict d ≡ false → together (Set p v) d ≡ Nothing
+set-other p v Nothing h = refl
+set-other p v Conflict h = cc
+set-other p v (Set q u) h = refl
+
+pub never-conflict : (p : ℕ) (v : Bool) (d : Step) → isConflict (together (Set p v) d) ≡ false
+never-conflict p v Nothing = refl
+never-conflict p v Conflict = refl
+never-conflict p v (Set q u) = refl
 
 pub asks-nil : (a : ℕ → Cell) → asks a [] ≡ Conflict
 unfolding asks

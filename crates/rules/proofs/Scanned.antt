@@ -1,78 +1,86 @@
--- What a list of literals asks, by what a scan of it comes to; and the reasons of a rule's four lists: what the code finds.
+-- What a list of literals asks, as the code scans it from the first to the last; and the four lists of a rule: what they ask, and their reasons.
 -- Assumes nothing.
-use Prim.Native.Nat.{ℕ, zero, suc, _≤_, _<_}
+use Prim.Native.Nat.{ℕ, zero, suc, _+_, _≤_, _<_}
+use native.Mathlib.Numerals.{add-one}
 use native.Mathlib.Omega.{arith}
-use mathlib.Core.Path.{_≡_, refl, sym, ap, _∙_}
+use mathlib.Core.Path.{_≡_, refl, sym, ap, ap₂, _∙_}
 use mathlib.Core.Bool.{Bool, true, false, not}
-use mathlib.Core.Option.{Option, some}
-use mathlib.Core.List.{List, [], _∷_, _++_, map}
+use mathlib.Core.List.{List, _++_, map}
 use lib.IntN.{ℤ, pos, natAbs}
-use lib.ListN.{length, getD}
-use Rattle.meaning.specs.Lists.{any}
+use lib.ListN.{length, getD, drop, drop-of-length-le}
+use lib.Seq.{drop-cons}
 use Rattle.meaning.specs.Program.{Rule}
 use Rattle.levels.specs.Levels.{Levels, noLevels, union}
 use Rattle.interpretation.specs.State.{Cell}
+use Rattle.interpretation.specs.declared.Value.{Value}
+use Rattle.interpretation.specs.declared.Value.the-variants.{True, False, Undefined}
 use Rattle.valuing.specs.Values.{Lit, atomLit, aggLit, value}
 use Rattle.valuing.specs.Reasons.{reasonsOf}
-use Rattle.layout.specs.Layout.{atoms, literalOf, Members, Listed, partAt, posAt, negAt, aggsAt, ruleAt}
-use Rattle.steps.specs.Steps.{headLits, bodyLits, firstOf, countOf}
-use Rattle.literals.specs.declared.Scan.{Scan}
-use Rattle.literals.specs.declared.Scan.the-variants.{Refuted, Whole, One, More}
-use Rattle.literals.specs.Scan.{atomLits, literalLits, scanOf, atomsReason}
-use Rattle.literals.proofs.Scans.{isFalse, isUndefined, IsRefuted, IsWhole, IsOne, IsMore, scan-refuted, scan-whole, scan-one, scan-more}
-use Rattle.literals.proofs.Together.{union-none, reasons-append, reasons-atoms, atom-at, literal-at, atoms-length}
+use Rattle.layout.specs.Layout.{atoms, Members, Listed, partAt, posAt, negAt, aggsAt, ruleAt}
+use Rattle.steps.specs.Steps.{headLits, bodyLits}
+use Rattle.literals.specs.Scan.{atomLits, literalLits, atomsReason}
+use Rattle.literals.proofs.Together.{union-none, reasons-append, reasons-atoms}
 use Rattle.rules.specs.declared.Step.{Step}
 use Rattle.rules.specs.declared.Step.the-variants.{Nothing, Conflict, Set}
-use Rattle.rules.specs.Demand.{becomesFalse, together, asks, demandOf}
-use Rattle.rules.proofs.Asks.{together-assoc, askBy, asks-by}
+use Rattle.rules.specs.Demand.{askOf, together, asks, demandOf}
+use Rattle.rules.proofs.Asks.{together-nothing, together-conflict, together-assoc, asks-nil, asks-cons}
 use Rattle.rules.proofs.Rule.{demand-parts}
 
--- a literal that is not there
-nobody : Lit
-nobody = atomLit true 0
+-- ---- the literals f (g w) of a list's words w, from index i on
 
-by-many : (n : ℕ) (o : Option Lit) → 2 ≤ n → askBy false n o ≡ Nothing
-by-many zero o h = absurd (omega arith)
-by-many (suc zero) o h = absurd (omega arith)
-by-many (suc (suc n)) o h = refl
+module _ {A : Type 0} (g : ℤ → A) (f : A → Lit) (a : ℕ → Cell) (l : List ℤ) (i : ℕ) where
+  abbrev lits : ℕ → List Lit
+  lits j = map f (map g (drop j l))
 
-module _ (a : ℕ → Cell) (s : List Lit) where
-  pub asks-refuted : (k : ℕ) → scanOf a s ≡ Refuted k → asks a s ≡ Nothing
-  asks-refuted k e =
-      let r = scan-refuted nobody a s k e in
-      asks-by a s ∙ ap (λ (b : Bool). askBy b (countOf (isUndefined a) s) (firstOf (isUndefined a) s)) (r .some-false)
+  abbrev here : Lit
+  here = f (g (getD l i (pos 0)))
 
-  pub asks-whole : scanOf a s ≡ Whole → asks a s ≡ Conflict
-  asks-whole e =
-      let r = scan-whole nobody a s e in
-      asks-by a s
-      ∙ ap (λ (b : Bool). askBy b (countOf (isUndefined a) s) (firstOf (isUndefined a) s)) (r .none-false)
-      ∙ ap (λ (n : ℕ). askBy false n (firstOf (isUndefined a) s)) (r .count)
+  -- the literal at i, beside those after it
+  pub asks-on : i < length l → (v : Value) → value a here ≡ v → asks a (lits i) ≡ together (askOf v here) (asks a (lits (i + 1)))
+  asks-on h v e =
+      ap (λ (m : List ℤ). asks a (map f (map g m))) (drop-cons l i (pos 0) h)
+      ∙ asks-cons a here (lits (suc i))
+      ∙ ap₂ (λ (u : Value) (j : ℕ). together (askOf u here) (asks a (lits j))) e (sym (add-one i))
 
-  pub asks-one : (d : Lit) (k : ℕ) → scanOf a s ≡ One k → asks a s ≡ becomesFalse (getD s k d)
-  asks-one d k e =
-      let r = scan-one d a s k e in
-      asks-by a s
-      ∙ ap (λ (b : Bool). askBy b (countOf (isUndefined a) s) (firstOf (isUndefined a) s)) (r .none-false)
-      ∙ ap (λ (n : ℕ). askBy false n (firstOf (isUndefined a) s)) (r .count)
-      ∙ ap (λ (o : Option Lit). askBy false 1 o) (r .first)
+  pub asks-end : length l ≤ i → asks a (lits i) ≡ Conflict
+  asks-end h = ap (λ (m : List ℤ). asks a (map f (map g m))) (drop-of-length-le l h) ∙ asks-nil a
 
-  pub asks-more : scanOf a s ≡ More → asks a s ≡ Nothing
-  asks-more e =
-      let r = scan-more nobody a s e in
-      asks-by a s
-      ∙ ap (λ (b : Bool). askBy b (countOf (isUndefined a) s) (firstOf (isUndefined a) s)) (r .none-false)
-      ∙ by-many (countOf (isUndefined a) s) (firstOf (isUndefined a) s) (r .count)
+-- ---- atoms of the sign s from index i on, beside those before it: all of these are true but atom q, which is undefined; q is 0 if there is none
 
--- a list of atoms, and one of aggregate literals
-pub asks-atom : (a : ℕ → Cell) (b : Bool) (l : List ℤ) (k : ℕ) → scanOf a (atomLits b l) ≡ One k → asks a (atomLits b l) ≡ Set (natAbs (getD l k (pos 0))) (not b)
-asks-atom a b l k e = asks-one a (atomLits b l) (atomLit b 0) k e ∙ ap becomesFalse (atom-at b l k)
+abbrev pub onlyAsks : Bool → ℕ → Step
+onlyAsks s zero = Conflict
+onlyAsks s (suc q) = Set (suc q) (not s)
 
-pub one-within : (a : ℕ → Cell) (b : Bool) (l : List ℤ) (k : ℕ) → scanOf a (atomLits b l) ≡ One k → k < length l
-one-within a b l k e = let r = scan-one nobody a (atomLits b l) k e in let w = r .within in let n = atoms-length b l in omega arith
+pub only-set : (s : Bool) (q : ℕ) → (q ≡ 0 → ⊥) → onlyAsks s q ≡ Set q (not s)
+only-set s zero n = absurd (n refl)
+only-set s (suc q) n = refl
 
-pub asks-aggregate : (a : ℕ → Cell) (t l : List ℤ) (k : ℕ) → scanOf a (literalLits t l) ≡ One k → asks a (literalLits t l) ≡ Nothing
-asks-aggregate a t l k e = asks-one a (literalLits t l) (aggLit (literalOf t (pos 0))) k e ∙ ap becomesFalse (literal-at t l k)
+module _ (s : Bool) (a : ℕ → Cell) (l : List ℤ) (i : ℕ) where
+  abbrev rest : ℕ → Step
+  rest j = asks a (atomLits s (drop j l))
+
+  abbrev atom : ℕ
+  atom = natAbs (getD l i (pos 0))
+
+  pub on-true : (q : ℕ) → i < length l → value a (atomLit s atom) ≡ True → together (onlyAsks s q) (rest i) ≡ together (onlyAsks s q) (rest (i + 1))
+  on-true q h e = ap (together (onlyAsks s q)) (asks-on natAbs (atomLit s) a l i h True e)
+
+  pub on-false : (q : ℕ) → i < length l → value a (atomLit s atom) ≡ False → together (onlyAsks s q) (rest i) ≡ Nothing
+  on-false q h e = ap (together (onlyAsks s q)) (asks-on natAbs (atomLit s) a l i h False e) ∙ together-nothing (onlyAsks s q)
+
+  -- the first undefined one, and a second
+  pub on-first : (p : ℕ) → p ≡ atom → 1 ≤ p → i < length l → value a (atomLit s atom) ≡ Undefined → rest i ≡ together (onlyAsks s p) (rest (i + 1))
+  on-first p k b h e =
+      asks-on natAbs (atomLit s) a l i h Undefined e
+      ∙ ap (λ (d : Step). together d (rest (i + 1))) (ap (λ (q : ℕ). Set q (not s)) (sym k) ∙ sym (only-set s p (λ z. omega arith)))
+
+  pub on-second : (q : ℕ) → (q ≡ 0 → ⊥) → i < length l → value a (atomLit s atom) ≡ Undefined → together (onlyAsks s q) (rest i) ≡ Nothing
+  on-second q n h e =
+      ap₂ together (only-set s q n) (asks-on natAbs (atomLit s) a l i h Undefined e)
+      ∙ sym (together-assoc (Set q (not s)) (Set atom (not s)) (rest (i + 1)))
+
+  pub on-end : (q : ℕ) → length l ≤ i → together (onlyAsks s q) (rest i) ≡ onlyAsks s q
+  on-end q h = ap (together (onlyAsks s q)) (asks-end natAbs (atomLit s) a l i h) ∙ together-conflict (onlyAsks s q)
 
 -- ---- the four lists of the rule at an index, one after the other
 

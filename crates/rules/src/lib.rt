@@ -13,8 +13,8 @@ ghost use Rattle.valuing.specs.Reasons.{reasonsOf};
 ghost use Rattle.steps.specs.Steps.{headLits, bodyLits};
 ghost use Rattle.literals.specs.Scan.{atomLits, literalLits};
 ghost use Rattle.rules.specs.Demand.{together, isNothing, isConflict, asks, demandOf};
+use interpretation::Value;
 use layout::Table;
-use literals::Scan;
 
 // What a rule asks: nothing, it is in conflict, or an atom is to be set.
 pub enum Step {
@@ -65,31 +65,66 @@ pub fn atoms_ask(l: &[i32], sign: bool, values: &[u8; 256]) -> Step
     requires { ⌜ Members 256 (now l) ⌝ }
     ensures { λ r. ⌜ r ≡ asks (valued (now (values .entry))) (atomLits sign (now (l .entry))) ⌝ }
 {
-    let found = literals::scan_atoms(l, sign, values);
-    match found {
-        // The rule holds: it is passed over.
-        Scan::Refuted(_) => Step::Nothing,
-        Scan::Whole => Step::Conflict,
-        Scan::One(k) => {
-            let p = words::atom(l, k);
-            Step::Set(p, !sign)
+    // The undefined atom passed so far, 0 if there is none. It is a number, so that the loop stays in registers.
+    let mut only: usize = 0;
+    let mut i: usize = 0;
+    while i < l.len() {
+        let p = words::atom(l, i);
+        let v = literals::signed(sign, interpretation::value_of(values, p));
+        match v {
+            Value::True => {}
+            // The rule holds: it is passed over.
+            Value::False => return Step::Nothing,
+            Value::Undefined => {
+                if only != 0 {
+                    return Step::Nothing;
+                }
+                only = p;
+            }
         }
-        Scan::More => Step::Nothing,
+        i += 1;
     }
+    if only == 0 {
+        return Step::Conflict;
+    }
+    Step::Set(only, !sign)
 }
 
-// What a list of aggregate literals asks: none of them is ever set.
+// Whether all atoms of a list are true, taken as literals, plain or negated.
+pub fn all_true(l: &[i32], sign: bool, values: &[u8; 256]) -> bool
+    requires { ⌜ Members 256 (now l) ⌝ }
+    ensures { λ r. ⌜ r ≡ isConflict (asks (valued (now (values .entry))) (atomLits sign (now (l .entry)))) ⌝ }
+{
+    let mut i: usize = 0;
+    while i < l.len() {
+        let p = words::atom(l, i);
+        let v = literals::signed(sign, interpretation::value_of(values, p));
+        match v {
+            Value::True => {}
+            Value::False => return false,
+            Value::Undefined => return false,
+        }
+        i += 1;
+    }
+    true
+}
+
+// What a list of aggregate literals asks: none of them is ever set, so one that is not true means that nothing is asked.
 pub fn literals_ask(t: &[i32], tb: Table, l: &[i32], values: &[u8; 256]) -> Step
     requires { ⌜ Laid (now t) tb × Members (tb .aggregates) (now l) ⌝ }
     ensures { λ r. ⌜ r ≡ asks (valued (now (values .entry))) (literalLits (now (t .entry)) (now (l .entry))) ⌝ }
 {
-    let found = literals::scan_literals(t, tb, l, values);
-    match found {
-        Scan::Refuted(_) => Step::Nothing,
-        Scan::Whole => Step::Conflict,
-        Scan::One(_) => Step::Nothing,
-        Scan::More => Step::Nothing,
+    let mut k: usize = 0;
+    while k < l.len() {
+        let v = literals::literal_value(t, tb, l, k, values);
+        match v {
+            Value::True => {}
+            Value::False => return Step::Nothing,
+            Value::Undefined => return Step::Nothing,
+        }
+        k += 1;
     }
+    Step::Conflict
 }
 
 // What part of a rule asks, with the list of atoms at `at` too.
@@ -98,8 +133,17 @@ pub fn with_list(so: Step, t: &[i32], at: usize, sign: bool, values: &[u8; 256])
     ensures { λ r. ⌜ r ≡ together so (asks (valued (now (values .entry))) (atomLits sign (partAt (now (t .entry)) at))) ⌝ }
 {
     let l = layout::part(t, at);
-    let d = atoms_ask(l, sign, values);
-    together(so, d)
+    match so {
+        Step::Nothing => Step::Nothing,
+        Step::Conflict => atoms_ask(l, sign, values),
+        // One literal is undefined already: all others must be true.
+        Step::Set(_, _) => {
+            if all_true(l, sign, values) {
+                return so;
+            }
+            Step::Nothing
+        }
+    }
 }
 
 // What the rule asks that begins at `at`: its head atoms negated, then its body. As soon as nothing can be asked, nothing more is read.
