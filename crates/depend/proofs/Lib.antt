@@ -3,6 +3,7 @@ pub mod Lists
 pub mod Sets
 pub mod Closing
 pub mod Walk
+pub mod Skipped
 pub mod Inside
 pub mod Graph
 pub mod Exact

@@ -1,12 +1,13 @@
 -- The rules and aggregates of an accepted table, one at a time, and the lowest rule that passes a test. Assumes nothing.
 use mathlib.Core.Path.{_≡_, refl, sym, ap, _∙_, subst}
-use mathlib.Core.Bool.{Bool, true, false}
+use mathlib.Core.Bool.{Bool, true, false, _||_}
 use mathlib.Core.List.{List, [], _∷_}
 use Prim.Native.Nat.{ℕ, suc, _+_, _-_, _*_, _≤_, _<_}
 use native.Mathlib.Omega.{arith}
 use lib.IntN.{ℤ, pos, natAbs}
 use lib.ListN.{length, getD, drop, length-take}
 use lib.Seq.{getD-take, getD-drop}
+use Rattle.meaning.specs.Lists.{any}
 use Rattle.meaning.specs.Program.{Rule, Program, In}
 use Rattle.layout.specs.declared.Table.{Table}
 use Rattle.layout.specs.Layout.{natAt, Members, pairsAt, startFrom, AggregateLies, ruleAt, rulesFrom, pastRule, RuleLies, RulesLie, Laid}
@@ -52,6 +53,17 @@ module _ (t : List ℤ) (i : ℕ) where
   rules-none n h =
       let e : n ≡ 0 = omega arith in
       ap (rulesFrom t i) e ∙ rules-zero
+
+  -- ---- whether some rule passes a test
+
+  module _ (f : Rule → Bool) (n : ℕ) where
+    pub some-on : 0 < n → any f (rulesFrom t i n) ≡ f (ruleAt t i) || any f (rulesFrom t (pastRule t i) (n - 1))
+    some-on h = ap (any f) (rules-on n h)
+
+    pub some-end : n ≤ 0 → any f (rulesFrom t i n) ≡ false
+    some-end h = ap (any f) (rules-none n h)
+
+  -- ---- that they lie in the table
 
   module _ (top most : ℕ) where
     lies-suc : (n : ℕ) → RulesLie top most t i (suc n) → RuleLies top most t i × RulesLie top most t (pastRule t i) n

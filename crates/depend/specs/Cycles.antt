@@ -1,6 +1,8 @@
 -- Refusals 8 and 9 (01, "What comes back"): "8 head cycle: lowest such rule, from 1", "9 aggregate cycle: lowest rule with such an arc"; 8 comes
 -- before 9. Definitions only. The tests of a rule, `headCycle` and `aggregateCycle`, are `meaning`'s; `proofs/Exact.antt` shows that `cycleOf` says
 -- exactly what `HeadCycle` and `AggregateCycle` mean.
+--   mayCross P         some rule has two head atoms, and some rule has head and positive atoms: there may be a head cycle
+--   mayReturn P        some rule has head atoms and aggregate literals: there may be an aggregate cycle
 --   crossed X l        two different atoms of the list l each of which X relates to the other
 --   returned X ps ls   X relates an element of one of the aggregate literals ls to one of the atoms ps
 --   lowest f k P       the first rule of P that passes f, rules being numbered from k on
@@ -21,6 +23,34 @@ use Rattle.depend.specs.declared.Place.the-variants.{Nowhere, At}
 use Rattle.depend.specs.declared.Cycle.{Cycle}
 use Rattle.depend.specs.declared.Cycle.the-variants.{Nothing, Refused}
 
+-- ---- whether there may be a cycle at all; `proofs/Skipped.antt` shows that there is none otherwise
+
+abbrev pub full {ℓ} : {A : Type ℓ} → List A → Bool
+full [] = false
+full (x ∷ l) = true
+
+abbrev pub more : List ℕ → Bool
+more [] = false
+more (p ∷ l) = full l
+
+abbrev pub wide : Rule → Bool
+wide r = more (r .head)
+
+-- only such rules make arcs, and only such add any
+abbrev pub makesArcs : Rule → Bool
+makesArcs r = full (r .head) && full (r .pos)
+
+abbrev pub addsArcs : Rule → Bool
+addsArcs r = full (r .head) && full (r .aggs)
+
+abbrev pub mayCross : Program → Bool
+mayCross P = any wide P && any makesArcs P
+
+abbrev pub mayReturn : Program → Bool
+mayReturn P = any addsArcs P
+
+-- ---- the tests of a rule
+
 module _ (X : ℕ → ℕ → Bool) where
   -- p and q are different, and each reaches the other
   abbrev pub crossing : ℕ → ℕ → Bool
@@ -34,6 +64,8 @@ module _ (X : ℕ → ℕ → Bool) where
 
   abbrev pub returned : List ℕ → List Literal → Bool
   returned ps ls = any (λ p. any (λ l. returning p (l .aggregate .elements)) ls) ps
+
+-- ---- the lowest rule, and the refusal
 
 abbrev pub orLater : Bool → Place → Place → Place
 orLater true p q = p

@@ -1,16 +1,103 @@
 // The tests of a rule for a head cycle and for an aggregate cycle, and the lowest rule that passes each. What reaches what is asked of `reach`.
-// Meaning: `specs/Cycles.antt`.
+// First, whether there can be a cycle of the kind at all: if not, nothing needs to be known. Meaning: `specs/Cycles.antt`; that these tests leave
+// out no cycle: `proofs/Skipped.antt`.
 ghost use mathlib.Core.Path.{_≡_};
+ghost use mathlib.Core.Bool.{_&&_};
 ghost use mathlib.Core.List.{map};
 ghost use Prim.Native.Nat.{_≤_};
+ghost use lib.ListN.{length};
 ghost use Rattle.meaning.specs.Lists.{any};
-ghost use Rattle.layout.specs.Layout.{atoms, Members, pairs, literalOf, ruleAt, RuleLies, programOf, Laid};
+ghost use Rattle.layout.specs.Layout.{pastAt, posAt, aggsAt, atoms, Members, pairs, literalOf, ruleAt, RuleLies, programOf, Laid};
 ghost use Rattle.depend.specs.Reach.{reach, Elements};
-ghost use Rattle.depend.specs.Cycles.{crossing, crossed, returning, returned, lowest};
+ghost use Rattle.depend.specs.Cycles.{full, wide, makesArcs, addsArcs, mayCross, mayReturn, crossing, crossed, returning, returned, lowest};
 use crate::Place;
 use crate::reach;
 use crate::reach::Known;
 use layout::Table;
+
+// ---- whether there can be a cycle
+
+// Whether two lists of a rule both have members.
+pub fn linked(head: &[i32], l: &[i32]) -> bool
+    ensures { λ r. ⌜ r ≡ full (now (head .entry)) && full (now (l .entry)) ⌝ }
+{
+    if head.len() == 0 {
+        return false;
+    }
+    l.len() != 0
+}
+
+// Whether the rule that begins at `at` has two atoms in its head or more.
+pub fn is_wide(t: &[i32], at: usize) -> bool
+    requires { ⌜ pastAt (now t) at ≤ length (now t) ⌝ }
+    ensures { λ r. ⌜ r ≡ wide (ruleAt (now (t .entry)) at) ⌝ }
+{
+    let head = layout::part(t, at);
+    1 < head.len()
+}
+
+// Whether it has a head and positive atoms.
+pub fn makes_arcs(t: &[i32], at: usize) -> bool
+    requires { ⌜ (pastAt (now t) at ≤ length (now t)) × (pastAt (now t) (posAt (now t) at) ≤ length (now t)) ⌝ }
+    ensures { λ r. ⌜ r ≡ makesArcs (ruleAt (now (t .entry)) at) ⌝ }
+{
+    let place = layout::past(t, at);
+    let head = layout::part(t, at);
+    let body = layout::part(t, place);
+    linked(head, body)
+}
+
+// Whether it has a head and aggregate literals.
+pub fn adds_arcs(t: &[i32], at: usize) -> bool
+    requires { ⌜ (pastAt (now t) at ≤ length (now t)) × (aggsAt (now t) at ≤ length (now t)) × (pastAt (now t) (aggsAt (now t) at) ≤ length (now t)) ⌝ }
+    ensures { λ r. ⌜ r ≡ addsArcs (ruleAt (now (t .entry)) at) ⌝ }
+{
+    let place = layout::literals_at(t, at);
+    let head = layout::part(t, at);
+    let l = layout::part(t, place);
+    linked(head, l)
+}
+
+// Whether there can be a head cycle: a head of two atoms, and an arc.
+pub fn may_cross(t: &[i32], tb: Table) -> bool
+    requires { ⌜ Laid (now t) tb ⌝ }
+    ensures { λ r. ⌜ r ≡ mayCross (programOf (now (t .entry)) tb) ⌝ }
+{
+    let mut two = false;
+    let mut arcs = false;
+    let mut at = tb.first;
+    let mut left = tb.rules;
+    while 0 < left {
+        let wide = is_wide(t, at);
+        let makes = makes_arcs(t, at);
+        two = wide | two;
+        arcs = makes | arcs;
+        let next = layout::past_rule(t, at);
+        at = next;
+        left -= 1;
+    }
+    two & arcs
+}
+
+// Whether there can be an aggregate cycle: an arc that is added.
+pub fn may_return(t: &[i32], tb: Table) -> bool
+    requires { ⌜ Laid (now t) tb ⌝ }
+    ensures { λ r. ⌜ r ≡ mayReturn (programOf (now (t .entry)) tb) ⌝ }
+{
+    let mut at = tb.first;
+    let mut left = tb.rules;
+    while 0 < left {
+        if adds_arcs(t, at) {
+            return true;
+        }
+        let next = layout::past_rule(t, at);
+        at = next;
+        left -= 1;
+    }
+    false
+}
+
+// ---- which rule has one
 
 // Whether two atoms are different and each reaches the other.
 pub fn both_ways(known: &Known, p: usize, q: usize) -> bool

@@ -2,7 +2,8 @@
 // Meaning: `specs/Cycles.antt`; that it is exactly the definition's `HeadCycle` and `AggregateCycle`: `proofs/Exact.antt`.
 // Memory: one table of 256 × 256 bits, 8 KiB, for each of the two questions, one after the other: 16 KiB at the most, and 8 KiB where the second
 // table takes the place of the first.
-// Cost: N² joins of rows of four words close the table, N³ / 64 word operations at N = 256; then one pass over the rules for each question.
+// Cost: one pass over the rules for each question, and where a cycle of the kind can be, N² joins of rows of four words to close the table,
+// N³ / 64 word operations at N = 256, and another pass.
 ghost use mathlib.Core.Path.{_≡_};
 ghost use Prim.Native.Nat.{suc};
 ghost use Rattle.meaning.specs.Cycles.{headCycle, aggregateCycle};
@@ -51,6 +52,9 @@ fn lowest_head(t: &[i32], tb: Table) -> Place
     requires { ⌜ Laid (now t) tb ⌝ }
     ensures { λ r. ⌜ r ≡ lowest (headCycle (suc (tb .atoms)) (programOf (now (t .entry)) tb)) 1 (programOf (now (t .entry)) tb) ⌝ }
 {
+    if !cycles::may_cross(t, tb) {
+        return Place::Nowhere;
+    }
     let mut known = reach::nothing();
     reach::build(t, tb, false, &mut known);
     cycles::first_head(t, tb, &known)
@@ -61,6 +65,9 @@ fn lowest_aggregate(t: &[i32], tb: Table) -> Place
     requires { ⌜ Laid (now t) tb ⌝ }
     ensures { λ r. ⌜ r ≡ lowest (aggregateCycle (suc (tb .atoms)) (programOf (now (t .entry)) tb)) 1 (programOf (now (t .entry)) tb) ⌝ }
 {
+    if !cycles::may_return(t, tb) {
+        return Place::Nowhere;
+    }
     let mut known = reach::nothing();
     reach::build(t, tb, true, &mut known);
     cycles::first_aggregate(t, tb, &known)
