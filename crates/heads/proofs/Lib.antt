@@ -1,0 +1,7 @@
+-- Laws about the definitions, and what the proofs of the code use.
+pub mod Laws
+pub mod Walks
+pub mod Lists
+pub mod Standing
+pub mod Room
+pub mod Filling

@@ -1,0 +1,110 @@
+-- How the code walks: a list of atoms from index i on, one atom at a time; the rules of a table, one at a time; the rules at a list of places.
+-- Assumes nothing.
+use mathlib.Core.Path.{_≡_, refl, sym, ap, _∙_, subst}
+use mathlib.Core.Bool.{Bool, true, false, cond, _||_}
+use mathlib.Core.List.{List, [], _∷_}
+use Prim.Native.Nat.{ℕ, zero, suc, _+_, _-_, _≤_, _<_}
+use native.Mathlib.Numerals.{add-one}
+use native.Mathlib.Omega.{arith}
+use lib.Dec.{eqb, eqb→eq, eqb-refl}
+use lib.IntN.{ℤ, pos, natAbs}
+use lib.ListN.{length, getD, drop, drop-of-length-le}
+use lib.Seq.{drop-cons}
+use Rattle.meaning.specs.Lists.{has}
+use Rattle.meaning.proofs.Tools.{contra, T→Is, Is→T}
+use Rattle.layout.specs.Layout.{atoms, partAt, pastRule, ruleAt, RuleLies, RulesLie}
+use Rattle.heads.specs.Heads.{placesFrom, withHead}
+
+-- ---- a list of atoms
+
+eqb-same : (m n : ℕ) → m ≡ n → eqb m n ≡ true
+eqb-same m n e = ap (λ (k : ℕ). eqb m k) (sym e) ∙ T→Is (eqb m m) (eqb-refl m)
+
+eqb-not : (m n : ℕ) → (m ≡ n → ⊥) → eqb m n ≡ false
+eqb-not m n f = contra (eqb m n) {b = false} (λ h. absurd (f (eqb→eq m n (Is→T (eqb m n) h)))) refl
+
+module _ (l : List ℤ) (i : ℕ) (p : ℕ) where
+  abbrev here : ℕ
+  here = natAbs (getD l i (pos 0))
+
+  split : i < length l → atoms (drop i l) ≡ here ∷ atoms (drop (i + 1) l)
+  split h = ap atoms (drop-cons l i (pos 0) h) ∙ ap (λ (j : ℕ). here ∷ atoms (drop j l)) (sym (add-one i))
+
+  has-cons : (q : ℕ) (s : List ℕ) → has p (q ∷ s) ≡ eqb p q || has p s
+  unfolding has
+  has-cons q s = refl
+
+  has-nil : has p [] ≡ false
+  unfolding has
+  has-nil = refl
+
+  pub has-here : i < length l → here ≡ p → has p (atoms (drop i l)) ≡ true
+  has-here h e = ap (has p) (split h) ∙ has-cons here (atoms (drop (i + 1) l)) ∙ ap (λ (b : Bool). b || has p (atoms (drop (i + 1) l))) (eqb-same p here (sym e))
+
+  pub has-on : i < length l → (here ≡ p → ⊥) → has p (atoms (drop i l)) ≡ has p (atoms (drop (i + 1) l))
+  has-on h n = ap (has p) (split h) ∙ has-cons here (atoms (drop (i + 1) l)) ∙ ap (λ (b : Bool). b || has p (atoms (drop (i + 1) l))) (eqb-not p here (λ e. n (sym e)))
+
+  pub has-end : length l ≤ i → has p (atoms (drop i l)) ≡ false
+  has-end h = ap (λ (s : List ℤ). has p (atoms s)) (drop-of-length-le l h) ∙ has-nil
+
+-- ---- the rules of a table
+
+module _ (t : List ℤ) (i : ℕ) where
+  places-suc : (n : ℕ) → placesFrom t i (suc n) ≡ i ∷ placesFrom t (pastRule t i) n
+  unfolding placesFrom
+  places-suc n = refl
+
+  pub places-zero : placesFrom t i 0 ≡ []
+  unfolding placesFrom
+  places-zero = refl
+
+  pub places-on : (n : ℕ) → 0 < n → placesFrom t i n ≡ i ∷ placesFrom t (pastRule t i) (n - 1)
+  places-on n h =
+      let e : n ≡ suc (n - 1) = omega arith in
+      ap (placesFrom t i) e ∙ places-suc (n - 1)
+
+  module _ (top most : ℕ) where
+    lies-suc : (n : ℕ) → RulesLie top most t i (suc n) → RuleLies top most t i × RulesLie top most t (pastRule t i) n
+    unfolding RulesLie
+    lies-suc n h = h
+
+    pub lies-on : (n : ℕ) → 0 < n → RulesLie top most t i n → RuleLies top most t i × RulesLie top most t (pastRule t i) (n - 1)
+    lies-on n h k =
+        let e : n ≡ suc (n - 1) = omega arith in
+        lies-suc (n - 1) (subst (RulesLie top most t i) e k)
+
+pub places-length : (t : List ℤ) (i n : ℕ) → length (placesFrom t i n) ≡ n
+unfolding placesFrom
+places-length t i zero = refl
+places-length t i (suc n) = ap suc (places-length t (pastRule t i) n)
+
+-- ---- the rules at a list of places
+
+pub head-is : (t : List ℤ) (i : ℕ) → ruleAt t i .head ≡ atoms (partAt t i)
+unfolding ruleAt
+head-is t i = refl
+
+module _ (t : List ℤ) (p : ℕ) where
+  with-nil : withHead t p [] ≡ []
+  unfolding withHead
+  with-nil = refl
+
+  with-cons : (i : ℕ) (l : List ℕ) → withHead t p (i ∷ l) ≡ cond (has p (atoms (partAt t i))) (i ∷ withHead t p l) (withHead t p l)
+  unfolding withHead
+  with-cons i l = ap (λ (s : List ℕ). cond (has p s) (i ∷ withHead t p l) (withHead t p l)) (head-is t i)
+
+  module _ (l : List ℕ) (k : ℕ) where
+    abbrev at : ℕ
+    at = getD l k 0
+
+    with-split : k < length l → withHead t p (drop k l) ≡ cond (has p (atoms (partAt t at))) (at ∷ withHead t p (drop (k + 1) l)) (withHead t p (drop (k + 1) l))
+    with-split h = ap (withHead t p) (drop-cons l k 0 h ∙ ap (λ (j : ℕ). at ∷ drop j l) (sym (add-one k))) ∙ with-cons at (drop (k + 1) l)
+
+    pub with-here : k < length l → has p (atoms (partAt t at)) ≡ true → withHead t p (drop k l) ≡ at ∷ withHead t p (drop (k + 1) l)
+    with-here h e = with-split h ∙ ap (λ (b : Bool). cond b (at ∷ withHead t p (drop (k + 1) l)) (withHead t p (drop (k + 1) l))) e
+
+    pub with-on : k < length l → has p (atoms (partAt t at)) ≡ false → withHead t p (drop k l) ≡ withHead t p (drop (k + 1) l)
+    with-on h e = with-split h ∙ ap (λ (b : Bool). cond b (at ∷ withHead t p (drop (k + 1) l)) (withHead t p (drop (k + 1) l))) e
+
+    pub with-end : length l ≤ k → withHead t p (drop k l) ≡ []
+    with-end h = ap (withHead t p) (drop-of-length-le l h) ∙ with-nil
