@@ -7,8 +7,10 @@ ghost use Rattle.levels.specs.View.{row};
 ghost use Rattle.interpretation.specs.State.{lowest, trueAtoms};
 ghost use Rattle.interpretation.specs.View.{view};
 ghost use Rattle.layout.specs.Layout.{Laid, programOf};
+ghost use Rattle.heads.specs.Heads.{Listed};
 ghost use Rattle.search.specs.Base.{base};
 ghost use Rattle.jumping.specs.Jumping.{turnOf, blamed, Solves};
+use heads::Lists;
 use interpretation::Choice;
 use interpretation::Interpretation;
 use layout::Table;
@@ -83,9 +85,9 @@ pub fn blame(out: Outcome, why: [u64; 4], k: usize) -> [u64; 4]
     }
 }
 
-// The search: propagate, then answer, end, open a level or jump back, and again.
-pub fn search(t: &[i32], tb: Table, limit: u32) -> Found
-    requires { ⌜ Laid (now t) tb ⌝ }
+// The search, by the lists of the table's rules: propagate, then answer, end, open a level or jump back, and again.
+pub fn search_by(t: &[i32], tb: Table, lists: &Lists, limit: u32) -> Found
+    requires { ⌜ Laid (now t) tb × Listed (now t) tb (now lists) ⌝ }
     ensures { λ r. ⌜ Solves (base (programOf (now (t .entry)) tb) (tb .atoms)) limit r ⌝ }
 {
     let mut it = Interpretation::start();
@@ -93,7 +95,7 @@ pub fn search(t: &[i32], tb: Table, limit: u32) -> Found
     let mut choices: u32 = 0;
     let mut skips: u32 = 0;
     loop {
-        let p = propagation::propagate(t, tb, it, reasons);
+        let p = propagation::propagate(t, tb, lists, it, reasons);
         let next = outcome::rows_of(p);
         reasons = next;
         let now = p.it;
@@ -149,4 +151,14 @@ pub fn search(t: &[i32], tb: Table, limit: u32) -> Found
             }
         }
     }
+}
+
+// The search over an accepted table: the lists of its rules are made once.
+pub fn search(t: &[i32], tb: Table, limit: u32) -> Found
+    requires { ⌜ Laid (now t) tb ⌝ }
+    ensures { λ r. ⌜ Solves (base (programOf (now (t .entry)) tb) (tb .atoms)) limit r ⌝ }
+{
+    let mut lists = [0u16; 17666];
+    heads::fill(t, tb, &mut lists);
+    search_by(t, tb, &lists, limit)
 }

@@ -1,6 +1,5 @@
 -- What the proofs of several functions share. Assumes nothing.
 pub mod Passing
 pub mod Falls
-pub mod Sole
 pub mod Stepped
 pub mod Handing

@@ -2,46 +2,60 @@
 -- Assumes nothing.
 use Prim.Native.Nat.{ℕ, zero, suc, _+_, _-_, _≤_, _<_}
 use native.Mathlib.Omega.{arith}
-use mathlib.Core.Path.{_≡_, refl, ap, _∙_, subst}
+use native.Mathlib.Numerals.{add-one}
+use mathlib.Core.Path.{_≡_, refl, sym, ap, _∙_, subst}
 use mathlib.Core.Bool.{cond}
-use mathlib.Core.List.{List, [], _∷_}
+use mathlib.Core.List.{List, [], _∷_, map}
 use lib.IntN.{ℤ}
+use lib.ListN.{length, getD, take, drop, length-drop}
+use lib.Seq.{length-take-le, drop-cons, getD-take, getD-drop}
 use Rattle.meaning.specs.Program.{Rule, Program}
 use Rattle.levels.specs.Levels.{Levels}
-use Rattle.layout.specs.Layout.{ruleAt, rulesFrom, pastRule, RuleLies, RulesLie}
+use Rattle.layout.specs.Layout.{ruleAt, RuleLies, programOf, Laid}
+use Rattle.layout.specs.declared.Table.{Table}
+use Rattle.heads.specs.Heads.{placesOf, Listed}
+use Rattle.heads.proofs.Laws.{places-lie, rules-at}
 use Rattle.steps.specs.Steps.{Verdict, conflict, Work, ifSettled, stepABC, countOf, isU, bodyLits, headLits, holdsNow, stepRule, stepDE, support, stepAtom, rulePass, atomPass, pass, passes}
 
 -- ---- rules
 
-module _ (t : List ℤ) (i : ℕ) where
-  rules-suc : (n : ℕ) → rulesFrom t i (suc n) ≡ ruleAt t i ∷ rulesFrom t (pastRule t i) n
-  unfolding rulesFrom
-  rules-suc n = refl
+-- the rules whose places stand in the lists from index i on, before index e
+abbrev pub rulesAt : List ℤ → List ℕ → ℕ → ℕ → Program
+rulesAt t a i e = map (ruleAt t) (take (e - i) (drop i a))
 
-  rules-zero : rulesFrom t i 0 ≡ []
-  unfolding rulesFrom
-  rules-zero = refl
+module _ (t : List ℤ) (a : List ℕ) (i e : ℕ) (w : Work) where
+  taken : i < e → e ≤ length a → take (e - i) (drop i a) ≡ getD a i 0 ∷ take (e - (i + 1)) (drop (i + 1) a)
+  taken h l =
+      let n : e - i ≡ suc (e - (i + 1)) = omega arith in
+      let k : i < length a = omega arith in
+      ap (λ (m : ℕ). take m (drop i a)) n ∙ ap (take (suc (e - (i + 1)))) (drop-cons a i 0 k ∙ ap (λ (j : ℕ). getD a i 0 ∷ drop j a) (sym (add-one i)))
 
-  module _ (top most : ℕ) where
-    lie-suc : (n : ℕ) → RulesLie top most t i (suc n) → RuleLies top most t i × RulesLie top most t (pastRule t i) n
-    unfolding RulesLie
-    lie-suc n h = h
+  pub rules-on : i < e → e ≤ length a → rulePass (rulesAt t a i e) w ≡ rulePass (rulesAt t a (i + 1) e) (stepRule (ruleAt t (getD a i 0)) w)
+  rules-on h l = ap (λ (m : List ℕ). rulePass (map (ruleAt t) m) w) (taken h l)
 
-    pub lie-on : (n : ℕ) → 0 < n → RulesLie top most t i n → RuleLies top most t i × RulesLie top most t (pastRule t i) (n - 1)
-    lie-on n h k =
-        let e : n ≡ suc (n - 1) = omega arith in
-        lie-suc (n - 1) (subst (RulesLie top most t i) e k)
+  pub rules-none : e ≤ i → rulePass (rulesAt t a i e) w ≡ w
+  rules-none h =
+      let n : e - i ≡ 0 = omega arith in
+      ap (λ (m : ℕ). rulePass (map (ruleAt t) (take m (drop i a))) w) n
 
-  module _ (w : Work) where
-    pub rules-on : (n : ℕ) → 0 < n → rulePass (rulesFrom t i n) w ≡ rulePass (rulesFrom t (pastRule t i) (n - 1)) (stepRule (ruleAt t i) w)
-    rules-on n h =
-        let e : n ≡ suc (n - 1) = omega arith in
-        ap (λ (k : ℕ). rulePass (rulesFrom t i k) w) e ∙ ap (λ (s : Program). rulePass s w) (rules-suc (n - 1))
+module _ (t : List ℤ) (tb : Table) (a : List ℕ) (listed : Listed t tb a) where
+  pub all-rules : rulesAt t a (getD a 0 0) (getD a 1 0) ≡ programOf t tb
+  all-rules = ap (map (ruleAt t)) (listed .all .same) ∙ rules-at t (tb .first) (tb .rules)
 
-    pub rules-none : (n : ℕ) → n ≤ 0 → rulePass (rulesFrom t i n) w ≡ w
-    rules-none n h =
-        let e : n ≡ 0 = omega arith in
-        ap (λ (k : ℕ). rulePass (rulesFrom t i k) w) e ∙ ap (λ (s : Program). rulePass s w) rules-zero
+  -- a rule lies at each place of list 0
+  pub lies-at : Laid t tb → (i : ℕ) → getD a 0 0 ≤ i → i < getD a 1 0 → RuleLies (tb .atoms) (tb .aggregates) t (getD a i 0)
+  lies-at laid i l h =
+      let f = getD a 0 0 in
+      let e = getD a 1 0 in
+      let s = listed .all .same in
+      let fit = listed .all .fits in
+      let m = length-drop f a in
+      let n : length (take (e - f) (drop f a)) ≡ e - f = length-take-le (e - f) (drop f a) (omega (arith, m, fit)) in
+      let c : length (take (e - f) (drop f a)) ≡ length (placesOf t tb) = ap (λ (x : List ℕ). length x) s in
+      let k : f + (i - f) ≡ i = omega (arith, l) in
+      let q : getD (placesOf t tb) (i - f) 0 ≡ getD a i 0 =
+      ap (λ (x : List ℕ). getD x (i - f) 0) (sym s) ∙ getD-take (e - f) (drop f a) (i - f) 0 (omega (arith, l, h)) ∙ getD-drop f a (i - f) 0 ∙ ap (λ (j : ℕ). getD a j 0) k in
+      subst (RuleLies (tb .atoms) (tb .aggregates) t) q (places-lie tb t (tb .first) (tb .rules) (laid .rulesLie) (i - f) (omega (arith, l, h, n, c)))
 
 -- ---- atoms p .. n
 

@@ -1,5 +1,5 @@
 -- What one step of the code makes of its interpretation, its reasons and its flag, as the steps of crate `steps` on the working state that these stand for:
--- a law for each arm of the two matches in `propagate`, and for the loop of `force`.
+-- a law for each arm of the two matches in `propagate`, and for what the loop inside them sets.
 --   Kept s x      x has the level and the choices of s
 --   Stepped       the step at hand came to this interpretation, these reasons and this flag
 -- Assumes nothing.
@@ -23,7 +23,6 @@ use Rattle.interpretation.specs.declared.Interpretation.{Interpretation}
 use Rattle.layout.specs.declared.Table.{Table}
 use Rattle.layout.specs.Layout.{ruleAt, programOf}
 use Rattle.valuing.specs.Reasons.{reasonsOf}
-use Rattle.outcome.specs.declared.Passed.{Passed}
 use Rattle.steps.specs.Steps as steps
 use Rattle.steps.specs.Steps.{Work, refuted, ruleReason, headLits, bodyLits, stepRule, stepE, stepAtom}
 use Rattle.rules.specs.declared.Step.{Step}
@@ -33,12 +32,12 @@ use Rattle.support.specs.declared.Ask.{Ask}
 use Rattle.support.specs.declared.Ask.the-variants as ask
 use Rattle.support.specs.declared.Next.the-variants as next
 use Rattle.support.specs.Asking.{askOf, blameOf, forcedOf, didAsk}
-use Rattle.propagation.specs.Propagation.{work, Forced}
+use Rattle.propagation.specs.Propagation.{work}
 use Rattle.literals.proofs.Alone.{reasons-alone}
 use Rattle.rules.proofs.Rule.{step-rule}
 use Rattle.rules.proofs.Alone.{demand-alone}
 use Rattle.support.proofs.Atom.{step-atom, ask-alone, blame-alone}
-use Rattle.support.proofs.Forcing.{forced-set}
+use Rattle.support.proofs.Forcing.{forced-nothing, forced-set}
 
 -- ---- level and choices
 
@@ -138,12 +137,14 @@ module _ (it : Interpretation) (reasons : List (List ℕ)) (b : Bool) where
       marked : (r : Rule) (R : Levels) (q : ℕ) (v : Bool) → forcedOf (cells (it .values) (it .records)) r ≡ next.Set q v → stepE (some r) R (work it reasons b) ≡ stepE (some r) R (work it reasons true)
       marked r R q v e = forced-set r R (work it reasons b) q v e ∙ sym (forced-set r R (work it reasons true) q v e)
 
-      pub atom-forces : (i q : ℕ) (v : Bool) (x : Passed) (rs : List (List ℕ)) → askOf t tb (valued (it .values)) p ≡ ask.Sole i → forcedOf (cells (it .values) (it .records)) (ruleAt t i) ≡ next.Set q v
-          → Forced t i w it reasons x → rs ≡ x .rows → length rs ≡ 256 → Stepped it (stepAtom (programOf t tb) p (work it reasons b)) (x .it) rs true
-      atom-forces i q v x rs e g F s n = record {
+      -- all that step e sets at the rule at i is set
+      pub atom-forces : (i q : ℕ) (v : Bool) (it′ : Interpretation) (rs : List (List ℕ)) → askOf t tb (valued (it .values)) p ≡ ask.Sole i → forcedOf (cells (it .values) (it .records)) (ruleAt t i) ≡ next.Set q v
+          → Kept (view it) (view it′) → length rs ≡ 256 → stepE (some (ruleAt t i)) (row w) (work it′ rs true) ≡ stepE (some (ruleAt t i)) (row w) (work it reasons true)
+          → forcedOf (cells (it′ .values) (it′ .records)) (ruleAt t i) ≡ next.Nothing → Stepped it (stepAtom (programOf t tb) p (work it reasons b)) it′ rs true
+      atom-forces i q v it′ rs e g k n z h = record {
         long = n;
-        kept = (ap (λ (z : state.Interpretation). z .level) (F .state), ap (λ (z : state.Interpretation). z .choice) (F .state));
+        kept = k;
         same =
             atom-does (ask.Sole i) e ∙ marked (ruleAt t i) (union (rows reasons p) blamed) q v g ∙ ap (λ (R : Levels). stepE (some (ruleAt t i)) R (work it reasons true)) (sym because-whole)
-            ∙ sym (F .made) ∙ ap (λ (y : List (List ℕ)). work (x .it) y true) (sym s);
+            ∙ sym z ∙ forced-nothing (ruleAt t i) (row w) (work it′ rs true) h;
       }

@@ -1,12 +1,11 @@
 -- What the code of a propagation hands back, in the terms of crate `steps` (01, "Propagation"). Definitions only.
 --   work        the working state that the code's interpretation, reasons and flag stand for: no conflict so far
 --   verdictBy   how the code says that a conflict was met
---   Forced      step e's sets at one rule;  Handed: a whole propagation
+--   Handed      what a whole propagation hands back
 -- Assumes nothing.
 use Prim.Native.Nat.{ℕ}
 use mathlib.Core.Path.{_≡_}
-use mathlib.Core.Bool.{Bool, true}
-use mathlib.Core.Option.{some}
+use mathlib.Core.Bool.{Bool}
 use mathlib.Core.List.{List}
 use lib.IntN.{ℤ}
 use Rattle.levels.specs.Levels.{Levels}
@@ -15,11 +14,11 @@ use Rattle.interpretation.specs.State.{withCells}
 use Rattle.interpretation.specs.View.{view, cells}
 use Rattle.interpretation.specs.declared.Interpretation.{Interpretation}
 use Rattle.layout.specs.declared.Table.{Table}
-use Rattle.layout.specs.Layout.{ruleAt, programOf}
+use Rattle.layout.specs.Layout.{programOf}
 use Rattle.outcome.specs.declared.Passed.{Passed}
 use Rattle.outcome.specs.declared.Outcome.{Outcome}
 use Rattle.outcome.specs.declared.Outcome.the-variants.{Settled, Conflict}
-use Rattle.steps.specs.Steps.{Verdict, settled, conflict, Work, stepE, propagate}
+use Rattle.steps.specs.Steps.{Verdict, settled, conflict, Work, propagate}
 
 abbrev pub work : Interpretation → List (List ℕ) → Bool → Work
 work it reasons changed = record { level = it .depth; cell = cells (it .values) (it .records); reason = rows reasons; verdict = settled; changed = changed }
@@ -27,11 +26,6 @@ work it reasons changed = record { level = it .depth; cell = cells (it .values) 
 abbrev pub verdictBy : Outcome → Levels → Verdict
 verdictBy Settled C = settled
 verdictBy Conflict C = conflict C
-
--- step e's sets: levels and choices stay, and the cells and reasons are those of the step; what it sets is a change
-pub record Forced (t : List ℤ) (at : ℕ) (why : List ℕ) (it0 : Interpretation) (rows0 : List (List ℕ)) (r : Passed) : Type 0 where
-  pub state : view (r .it) ≡ withCells (view it0) (cells (r .it .values) (r .it .records))
-  pub made : work (r .it) (r .rows) true ≡ stepE (some (ruleAt t at)) (row why) (work it0 rows0 true)
 
 pub record Handed (t : List ℤ) (tb : Table) (it0 : Interpretation) (rows0 : List (List ℕ)) (r : Passed) : Type 0 where
   pub state : view (r .it) ≡ withCells (view it0) (propagate (programOf t tb) (tb .atoms) (view it0) (rows rows0) .cell)

@@ -6,9 +6,11 @@ ghost use Prim.Native.Nat.{_≤_};
 ghost use Rattle.levels.specs.Levels.{union};
 ghost use Rattle.levels.specs.View.{row, rows};
 ghost use Rattle.interpretation.specs.View.{valued};
-ghost use Rattle.layout.specs.Layout.{Laid, RuleLies, programOf};
+ghost use Rattle.layout.specs.Layout.{Laid, programOf};
+ghost use Rattle.heads.specs.Heads.{Listed};
 ghost use Rattle.support.specs.Asking.{blameOf};
-ghost use Rattle.propagation.specs.Propagation.{Handed, Forced};
+ghost use Rattle.propagation.specs.Propagation.{Handed};
+use heads::Lists;
 use interpretation::Interpretation;
 use layout::Table;
 use outcome::Outcome;
@@ -21,63 +23,42 @@ use support::Next;
 pub fn whole_reason(
     t: &[i32],
     tb: Table,
+    lists: &Lists,
     p: usize,
     values: &[u8; 256],
     reasons: &[[u64; 4]; 256],
 ) -> [u64; 4]
-    requires { ⌜ Laid (now t) tb × (1 ≤ p) × (p ≤ tb .atoms) ⌝ }
+    requires { ⌜ Laid (now t) tb × Listed (now t) tb (now lists) × (1 ≤ p) × (p ≤ tb .atoms) ⌝ }
     ensures { λ r. ⌜ row r ≡ union (rows (now (reasons .entry)) p) (blameOf (valued (now (values .entry))) (rows (now (reasons .entry))) p (programOf (now (t .entry)) tb)) ⌝ }
 {
-    let others = support::blame(t, tb, p, values, reasons);
+    let others = support::blame(t, tb, lists, p, values, reasons);
     let i = p - 1;
     let own = reasons[i];
     levels::union(own, others)
 }
 
-// Step e at the rule that begins at `at`: its undefined head atoms become false, then its positive atoms true, then its negated atoms false,
-// all with the reason `why`.
-pub fn force(
+// Passes until one changes nothing or a conflict ends it.
+pub fn propagate(
     t: &[i32],
     tb: Table,
-    at: usize,
-    why: [u64; 4],
+    lists: &Lists,
     it0: Interpretation,
     rows0: [[u64; 4]; 256],
 ) -> Passed
-    requires { ⌜ Laid (now t) tb × RuleLies (tb .atoms) (tb .aggregates) (now t) at ⌝ }
-    ensures { λ r. ⌜ Forced (now (t .entry)) at why it0 rows0 r ⌝ }
-{
-    let mut it = it0;
-    let mut reasons = rows0;
-    loop {
-        let s = support::forced(t, tb, at, &it.values);
-        match s {
-            Next::Nothing => {
-                return outcome::pack(it, reasons, why, Outcome::Settled);
-            }
-            Next::Set(q, v) => {
-                let i = q - 1;
-                reasons[i] = why;
-                it = it.set(q, v);
-            }
-        }
-    }
-}
-
-// Passes until one changes nothing or a conflict ends it.
-pub fn propagate(t: &[i32], tb: Table, it0: Interpretation, rows0: [[u64; 4]; 256]) -> Passed
-    requires { ⌜ Laid (now t) tb ⌝ }
+    requires { ⌜ Laid (now t) tb × Listed (now t) tb (now lists) ⌝ }
     ensures { λ r. ⌜ Handed (now (t .entry)) tb it0 rows0 r ⌝ }
 {
     let mut it = it0;
     let mut reasons = rows0;
     let mut why = levels::empty();
     let n = tb.atoms;
+    let first = lists[0] as usize;
+    let end = lists[1] as usize;
     let out = 'passes: loop {
         let mut changed = false;
-        let mut at = tb.first;
-        let mut left = tb.rules;
-        while 0 < left {
+        let mut r = first;
+        while r < end {
+            let at = lists[r] as usize;
             let s = rules::demand(t, tb, at, &it.values);
             match s {
                 Step::Nothing => {}
@@ -94,33 +75,38 @@ pub fn propagate(t: &[i32], tb: Table, it0: Interpretation, rows0: [[u64; 4]; 25
                     changed = true;
                 }
             }
-            at = layout::past_rule(t, at);
-            left -= 1;
+            r += 1;
         }
         let mut p: usize = 1;
         while p <= n {
-            let a = support::asked(t, tb, p, &it.values);
+            let a = support::asked(t, tb, lists, p, &it.values);
             match a {
                 Ask::Nothing => {}
                 Ask::Conflict => {
-                    let whole = whole_reason(t, tb, p, &it.values, &reasons);
+                    let whole = whole_reason(t, tb, lists, p, &it.values, &reasons);
                     why = whole;
                     break 'passes Outcome::Conflict;
                 }
                 Ask::Unset => {
-                    let others = support::blame(t, tb, p, &it.values, &reasons);
+                    let others = support::blame(t, tb, lists, p, &it.values, &reasons);
                     let i = p - 1;
                     reasons[i] = others;
                     it = it.set(p, false);
                     changed = true; // figure 2 of source 001 forgets this one
                 }
                 Ask::Sole(place) => {
-                    let whole = whole_reason(t, tb, p, &it.values, &reasons);
-                    let f = force(t, tb, place, whole, it, reasons);
-                    let next = outcome::rows_of(f);
-                    reasons = next;
-                    let state = f.it;
-                    it = state;
+                    let whole = whole_reason(t, tb, lists, p, &it.values, &reasons);
+                    loop {
+                        let f = support::forced(t, tb, place, &it.values);
+                        match f {
+                            Next::Nothing => break,
+                            Next::Set(q, v) => {
+                                let j = q - 1;
+                                reasons[j] = whole;
+                                it = it.set(q, v);
+                            }
+                        }
+                    }
                     changed = true;
                 }
             }

@@ -1,16 +1,18 @@
 -- What is asked at an atom is what steps d and e make of it: the laws for callers.
 --   step-atom        steps d and e do what is asked;  ask-nothing, ask-conflict, ask-unset, ask-sole: the same for each answer
---   ask-open         an atom that becomes false by step d was undefined;  sole-lies: the rule that alone supports lies in the table
+--   ask-open         an atom that becomes false by step d was undefined
+--   sole-lies        the rule that alone supports lies in the table;  sole-sets: there is an atom that step e sets
 --   ask-alone, blame-alone   both depend on the values alone
 -- Assumes nothing.
-use Prim.Native.Nat.{ℕ, zero, suc}
+use Prim.Native.Nat.{ℕ, zero, suc, _<_}
 use native.Mathlib.Omega.{arith}
-use mathlib.Core.Path.{_≡_, refl, sym, ap, _∙_, fun-ext}
+use mathlib.Core.Path.{_≡_, refl, sym, ap, _∙_, subst, fun-ext}
 use mathlib.Core.Logic.{_⊎_, inl, inr}
 use mathlib.Core.Bool.{Bool, true, false, cond, _&&_}
 use mathlib.Core.Option.{Option, none, some}
-use mathlib.Core.List.{List, [], _∷_}
+use mathlib.Core.List.{List, [], _∷_, map}
 use lib.IntN.{ℤ}
+use lib.ListN.{length, getD}
 use Rattle.meaning.specs.Lists.{has}
 use Rattle.meaning.specs.Program.{Rule, Program}
 use Rattle.levels.specs.Levels.{Levels, union}
@@ -20,7 +22,9 @@ use Rattle.interpretation.specs.declared.Record.{Record}
 use Rattle.interpretation.specs.declared.Value.{Value}
 use Rattle.interpretation.specs.declared.Value.the-variants.{True, False, Undefined}
 use Rattle.interpretation.proofs.Laws as interpretation
-use Rattle.layout.specs.Layout.{pastRule, ruleAt, rulesFrom, RuleLies, RulesLie, programOf, Laid}
+use Rattle.layout.specs.Layout.{ruleAt, RuleLies, programOf, Laid}
+use Rattle.heads.specs.Heads.{placesOf, withHead}
+use Rattle.heads.proofs.Laws.{places-lie, with-lie, rules-at}
 use Rattle.layout.specs.declared.Table.{Table}
 use Rattle.valuing.specs.Values.{Lit, value}
 use Rattle.valuing.specs.Reasons.{reasonOf}
@@ -30,9 +34,7 @@ use Rattle.support.specs.declared.Ask.{Ask}
 use Rattle.support.specs.declared.Ask.the-variants.{Nothing, Conflict, Unset, Sole}
 use Rattle.support.specs.declared.Next.{Next}
 use Rattle.support.specs.declared.Next.the-variants as next
-use Rattle.support.specs.declared.Place.{Place}
-use Rattle.support.specs.declared.Place.the-variants.{Nowhere, At}
-use Rattle.support.specs.Asking.{witnessBy, witnessOf, isNone, supportsOf, firstRule, forcedOf, soleBy, askBy, askOf, joinedBy, blameBy, blameOf, didAsk}
+use Rattle.support.specs.Asking.{witnessBy, witnessOf, isNone, supportsOf, someRule, forcedOf, soleBy, openBy, trueBy, askBy, askOf, joinedBy, blameBy, blameOf, didAsk}
 use Rattle.support.proofs.Forcing.{forced-nothing, forced-alone}
 
 -- ---- the blame is the support's
@@ -56,51 +58,73 @@ module _ (p : ℕ) (w : Work) where
     abbrev f : Rule → Bool
     f = supportsOf (w .cell) p
 
-    -- the number of supporting rules among n from i on
-    abbrev many : ℕ → ℕ → ℕ
-    many i n = (support w p (rulesFrom t i n)) .number
+    -- of the rules at l
+    abbrev among : List ℕ → Support
+    among l = support w p (map (ruleAt t) l)
 
-    abbrev Found : Place → Support → Type 0
-    Found Nowhere s = s .number ≡ 0
-    Found (At i m) s = (s .number ≡ suc (many (pastRule t i) m)) × (s .who ≡ some (ruleAt t i))
-
-    found-same : (x : Place) (s u : Support) → s .number ≡ u .number → s .who ≡ u .who → Found x u → Found x s
-    found-same Nowhere s u e g h = e ∙ h
-    found-same (At i m) s u e g h = (e ∙ h .0, g ∙ h .1)
-
-    found : (i n : ℕ) → Found (firstRule f t i n) (support w p (rulesFrom t i n))
-    unfolding firstRule rulesFrom supportsOf witnessOf
-    found i zero = refl
-    found i (suc n) = at (has p (ruleAt t i .head)) (witness w p (ruleAt t i)) (found (pastRule t i) n)
+    -- rules without p in the head do not matter
+    with-only : (l : List ℕ) → among (withHead t p l) ≡ among l
+    unfolding withHead
+    with-only [] = refl
+    with-only (i ∷ l) = at (has p (ruleAt t i .head)) refl (with-only l)
       where
-        at : (b : Bool) (o : Option Lit) → Found (firstRule f t (pastRule t i) n) (support w p (rulesFrom t (pastRule t i) n))
-            → Found (elim (b && isNone o) [ true ↦ At i n | false ↦ firstRule f t (pastRule t i) n ])
-            (cond b (addSupport w (ruleAt t i) o (support w p (rulesFrom t (pastRule t i) n))) (support w p (rulesFrom t (pastRule t i) n)))
+        at : (b : Bool) → has p (ruleAt t i .head) ≡ b → among (withHead t p l) ≡ among l
+            → among (cond b (i ∷ withHead t p l) (withHead t p l)) ≡ cond b (addSupport w (ruleAt t i) (witness w p (ruleAt t i)) (among l)) (among l)
+        at false e h = h
+        at true e h =
+            ap (λ (b : Bool). cond b (addSupport w (ruleAt t i) (witness w p (ruleAt t i)) (among (withHead t p l))) (among (withHead t p l))) e
+            ∙ ap (addSupport w (ruleAt t i) (witness w p (ruleAt t i))) h
+
+    -- none supports, or n + 1 do
+    abbrev Many : Bool → Support → Type 0
+    Many false s = s .number ≡ 0
+    Many true s = (n : ℕ) × (s .number ≡ suc n)
+
+    many-same : (b : Bool) (s u : Support) → s .number ≡ u .number → Many b u → Many b s
+    many-same false s u e h = e ∙ h
+    many-same true s u e h = (h .0, e ∙ h .1)
+
+    many : (l : List ℕ) → Many (someRule f t l) (among l)
+    unfolding someRule supportsOf witnessOf
+    many [] = refl
+    many (i ∷ l) = at (has p (ruleAt t i .head)) (witness w p (ruleAt t i)) (many l)
+      where
+        at : (b : Bool) (o : Option Lit) → Many (someRule f t l) (among l)
+            → Many (elim (b && isNone o) [ true ↦ true | false ↦ someRule f t l ]) (cond b (addSupport w (ruleAt t i) o (among l)) (among l))
         at false o h = h
-        at true none h = (refl, refl)
-        at true (some x) h = found-same (firstRule f t (pastRule t i) n) (addSupport w (ruleAt t i) (some x) (support w p (rulesFrom t (pastRule t i) n))) (support w p (rulesFrom t (pastRule t i) n)) refl refl h
+        at true none h = ((among l) .number, refl)
+        at true (some x) h = many-same (someRule f t l) (addSupport w (ruleAt t i) (some x) (among l)) (among l) refl h
 
     -- ---- the steps
 
-    -- the rule at i supports, and n others
-    sole : (B : Levels) (i n : ℕ) (y : Place) (s : Support) → s .number ≡ n → Found y s → (x : Next) → forcedOf (w .cell) (ruleAt t i) ≡ x
-        → stepTrue (suc n) (some (ruleAt t i)) (union (w .reason p) B) w ≡ didAsk t p (soleBy i y x) B w
-    sole B i n Nowhere s e h (next.Set q v) g = ap (λ (k : ℕ). stepTrue (suc k) (some (ruleAt t i)) (union (w .reason p) B) w) (sym e ∙ h)
-    sole B i n Nowhere s e h next.Nothing g =
-        ap (λ (k : ℕ). stepTrue (suc k) (some (ruleAt t i)) (union (w .reason p) B) w) (sym e ∙ h) ∙ forced-nothing (ruleAt t i) (union (w .reason p) B) w g
-    sole B i n (At j m) s e h x g = ap (λ (k : ℕ). stepTrue (suc k) (some (ruleAt t i)) (union (w .reason p) B) w) (sym e ∙ h .0)
+    -- the rule at i supports, and those that s tells of
+    sole : (B : Levels) (i : ℕ) (b : Bool) (s : Support) → Many b s → (x : Next) → forcedOf (w .cell) (ruleAt t i) ≡ x
+        → stepTrue (suc (s .number)) (some (ruleAt t i)) (union (w .reason p) B) w ≡ didAsk t p (soleBy i b x) B w
+    sole B i false s h (next.Set q v) g = ap (λ (k : ℕ). stepTrue (suc k) (some (ruleAt t i)) (union (w .reason p) B) w) h
+    sole B i false s h next.Nothing g = ap (λ (k : ℕ). stepTrue (suc k) (some (ruleAt t i)) (union (w .reason p) B) w) h ∙ forced-nothing (ruleAt t i) (union (w .reason p) B) w g
+    sole B i true s h x g = ap (λ (k : ℕ). stepTrue (suc k) (some (ruleAt t i)) (union (w .reason p) B) w) (h .1)
 
-    step-by : (B : Levels) (c : Cell) (x : Place) (s : Support) → Found x s → s .why ≡ B → stepDE p c s w ≡ didAsk t p (askBy f (forcedOf (w .cell)) t (cellValue c) x) B w
-    step-by B undefined Nowhere s h e = ap (λ (n : ℕ). stepD n p (s .why) w) h ∙ ap (λ (R : Levels). set p false R w) e
-    step-by B undefined (At i m) s h e = ap (λ (n : ℕ). stepD n p (s .why) w) (h .0)
-    step-by B (defined false l) x s h e = refl
-    step-by B (defined true l) Nowhere s h e =
-        ap (λ (n : ℕ). stepTrue n (s .who) (union (w .reason p) (s .why)) w) h ∙ ap (λ (R : Levels). refuted (union (w .reason p) R) w) e
-    step-by B (defined true l) (At i m) s h e =
-        ap (λ (n : ℕ). stepTrue n (s .who) (union (w .reason p) (s .why)) w) (h .0)
-        ∙ ap (λ (o : Option Rule). stepTrue (suc (many (pastRule t i) m)) o (union (w .reason p) (s .why)) w) (h .1)
-        ∙ ap (λ (R : Levels). stepTrue (suc (many (pastRule t i) m)) (some (ruleAt t i)) (union (w .reason p) R) w) e
-        ∙ sole B i (many (pastRule t i) m) (firstRule f t (pastRule t i) m) (support w p (rulesFrom t (pastRule t i) m)) refl (found (pastRule t i) m) (forcedOf (w .cell) (ruleAt t i)) refl
+    step-true : (B : Levels) (l : List ℕ) → stepTrue ((among l) .number) ((among l) .who) (union (w .reason p) B) w ≡ didAsk t p (trueBy f (forcedOf (w .cell)) t l) B w
+    unfolding trueBy supportsOf witnessOf
+    step-true B [] = refl
+    step-true B (i ∷ l) = at (has p (ruleAt t i .head)) (witness w p (ruleAt t i)) (step-true B l)
+      where
+        at : (b : Bool) (o : Option Lit)
+            → stepTrue ((among l) .number) ((among l) .who) (union (w .reason p) B) w ≡ didAsk t p (trueBy f (forcedOf (w .cell)) t l) B w
+            → stepTrue ((cond b (addSupport w (ruleAt t i) o (among l)) (among l)) .number) ((cond b (addSupport w (ruleAt t i) o (among l)) (among l)) .who) (union (w .reason p) B) w
+            ≡ didAsk t p (elim (b && isNone o) [ true ↦ soleBy i (someRule f t l) (forcedOf (w .cell) (ruleAt t i)) | false ↦ trueBy f (forcedOf (w .cell)) t l ]) B w
+        at false o h = h
+        at true none h = sole B i (someRule f t l) (among l) (many l) (forcedOf (w .cell) (ruleAt t i)) refl
+        at true (some x) h = h
+
+    step-open : (B : Levels) (b : Bool) (s : Support) → Many b s → s .why ≡ B → stepD (s .number) p (s .why) w ≡ didAsk t p (openBy b) B w
+    step-open B false s h e = ap (λ (n : ℕ). stepD n p (s .why) w) h ∙ ap (λ (R : Levels). set p false R w) e
+    step-open B true s h e = ap (λ (n : ℕ). stepD n p (s .why) w) (h .1)
+
+    step-by : (B : Levels) (c : Cell) (l : List ℕ) → (among l) .why ≡ B → stepDE p c (among l) w ≡ didAsk t p (askBy f (forcedOf (w .cell)) t (cellValue c) l) B w
+    step-by B undefined l e = step-open B (someRule f t l) (among l) (many l) e
+    step-by B (defined false n) l e = refl
+    step-by B (defined true n) l e = ap (λ (R : Levels). stepTrue ((among l) .number) ((among l) .who) (union (w .reason p) R) w) e ∙ step-true B l
 
     module _ (tb : Table) where
       abbrev B : Levels
@@ -108,7 +132,10 @@ module _ (p : ℕ) (w : Work) where
 
       step-de : stepDE p (w .cell p) (support w p (programOf t tb)) w ≡ didAsk t p (askOf t tb (w .cell) p) B w
       unfolding askOf
-      step-de = step-by B (w .cell p) (firstRule f t (tb .first) (tb .rules)) (support w p (programOf t tb)) (found (tb .first) (tb .rules)) (blame-why (programOf t tb))
+      step-de =
+          let e = with-only (placesOf t tb) ∙ ap (support w p) (rules-at t (tb .first) (tb .rules)) in
+          ap (λ (s : Support). stepDE p (w .cell p) s w) (sym e)
+          ∙ step-by B (w .cell p) (withHead t p (placesOf t tb)) (ap (λ (s : Support). s .why) e ∙ blame-why (programOf t tb))
 
       pub step-atom : stepAtom (programOf t tb) p w ≡ ifSettled (w .verdict) (didAsk t p (askOf t tb (w .cell) p) B w) w
       step-atom = ap (λ (u : Work). ifSettled (w .verdict) u w) step-de
@@ -131,65 +158,77 @@ module _ (p : ℕ) (w : Work) where
 
 -- ---- what an answer says of the atom and of the place
 
-ask-is : (t : List ℤ) (tb : Table) (a : ℕ → Cell) (p : ℕ) → askOf t tb a p ≡ askBy (supportsOf a p) (forcedOf a) t (cellValue (a p)) (firstRule (supportsOf a p) t (tb .first) (tb .rules))
+ask-is : (t : List ℤ) (tb : Table) (a : ℕ → Cell) (p : ℕ) → askOf t tb a p ≡ askBy (supportsOf a p) (forcedOf a) t (cellValue (a p)) (withHead t p (placesOf t tb))
 unfolding askOf
 ask-is t tb a p = refl
 
-pub ask-by : (t : List ℤ) (tb : Table) (a : ℕ → Cell) (p : ℕ) (v : Value) (x : Place) → cellValue (a p) ≡ v → firstRule (supportsOf a p) t (tb .first) (tb .rules) ≡ x
-    → askOf t tb a p ≡ askBy (supportsOf a p) (forcedOf a) t v x
-ask-by t tb a p v x e h =
-    ask-is t tb a p ∙ ap (λ (u : Value). askBy (supportsOf a p) (forcedOf a) t u (firstRule (supportsOf a p) t (tb .first) (tb .rules))) e
-    ∙ ap (askBy (supportsOf a p) (forcedOf a) t v) h
+pub ask-by : (t : List ℤ) (tb : Table) (a : ℕ → Cell) (p : ℕ) (v : Value) → cellValue (a p) ≡ v → askOf t tb a p ≡ askBy (supportsOf a p) (forcedOf a) t v (withHead t p (placesOf t tb))
+ask-by t tb a p v e = ask-is t tb a p ∙ ap (λ (u : Value). askBy (supportsOf a p) (forcedOf a) t u (withHead t p (placesOf t tb))) e
 
-pub sole-nothing : (i : ℕ) (y : Place) → soleBy i y next.Nothing ≡ Nothing
-sole-nothing i (At j m) = refl
-sole-nothing i Nowhere = refl
+pub sole-nothing : (i : ℕ) (b : Bool) → soleBy i b next.Nothing ≡ Nothing
+sole-nothing i true = refl
+sole-nothing i false = refl
 
-sole-not-unset : (i : ℕ) (y : Place) (n : Next) → soleBy i y n ≡ Unset → ⊥
-sole-not-unset i (At j m) n e = let z : _≡_ {A = ℕ} 0 1 = cc in omega arith
-sole-not-unset i Nowhere (next.Set q v) e = let z : _≡_ {A = ℕ} 0 1 = cc in omega arith
-sole-not-unset i Nowhere next.Nothing e = let z : _≡_ {A = ℕ} 0 1 = cc in omega arith
+-- the rule that a true atom's answer names: it is in the list, and step e sets an atom there
+module _ (f : Rule → Bool) (g : Rule → Next) (t : List ℤ) where
+  abbrev Named : List ℕ → ℕ → Type 0
+  Named l j = ((k : ℕ) × (k < length l) × (getD l k 0 ≡ j)) × ((q : ℕ) × (v : Bool) × (g (ruleAt t j) ≡ next.Set q v))
 
-sole-same : (i j : ℕ) (y : Place) (n : Next) → soleBy i y n ≡ Sole j → i ≡ j
-sole-same i j (At k m) n e = absurd (let z : _≡_ {A = ℕ} 0 1 = cc in omega arith)
-sole-same i j Nowhere (next.Set q v) e = cc
-sole-same i j Nowhere next.Nothing e = absurd (let z : _≡_ {A = ℕ} 0 1 = cc in omega arith)
+  true-named : (l : List ℕ) (j : ℕ) → trueBy f g t l ≡ Sole j → Named l j
+  unfolding trueBy
+  true-named [] j e = absurd (let z : _≡_ {A = ℕ} 0 1 = cc in omega arith)
+  true-named (i ∷ l) j e = at (f (ruleAt t i)) (someRule f t l) (g (ruleAt t i)) refl e (true-named l j)
+    where
+      at : (b c : Bool) (x : Next) → g (ruleAt t i) ≡ x → elim b [ true ↦ soleBy i c x | false ↦ trueBy f g t l ] ≡ Sole j → (trueBy f g t l ≡ Sole j → Named l j) → Named (i ∷ l) j
+      at true true x h e r = absurd (let z : _≡_ {A = ℕ} 0 1 = cc in omega arith)
+      at true false (next.Set q v) h e r =
+          let s : i ≡ j = cc in
+          ((0, omega arith, s), (q, v, ap (λ (k : ℕ). g (ruleAt t k)) (sym s) ∙ h))
+      at true false next.Nothing h e r = absurd (let z : _≡_ {A = ℕ} 0 1 = cc in omega arith)
+      at false c x h e r =
+          let m = r e in
+          let k = m .0 .1 in
+          ((suc (m .0 .0), omega (arith, k), m .0 .2), m .1)
+
+  true-not-unset : (l : List ℕ) → trueBy f g t l ≡ Unset → ⊥
+  unfolding trueBy
+  true-not-unset [] e = let z : _≡_ {A = ℕ} 0 1 = cc in omega arith
+  true-not-unset (i ∷ l) e = at (f (ruleAt t i)) (someRule f t l) (g (ruleAt t i)) e (true-not-unset l)
+    where
+      at : (b c : Bool) (x : Next) → elim b [ true ↦ soleBy i c x | false ↦ trueBy f g t l ] ≡ Unset → (trueBy f g t l ≡ Unset → ⊥) → ⊥
+      at true true x e r = let z : _≡_ {A = ℕ} 0 1 = cc in omega arith
+      at true false (next.Set q v) e r = let z : _≡_ {A = ℕ} 0 1 = cc in omega arith
+      at true false next.Nothing e r = let z : _≡_ {A = ℕ} 0 1 = cc in omega arith
+      at false c x e r = r e
+
+  open-not-sole : (b : Bool) (j : ℕ) → openBy b ≡ Sole j → ⊥
+  open-not-sole true j e = let z : _≡_ {A = ℕ} 0 1 = cc in omega arith
+  open-not-sole false j e = let z : _≡_ {A = ℕ} 0 1 = cc in omega arith
+
+  ask-named : (v : Value) (l : List ℕ) (j : ℕ) → askBy f g t v l ≡ Sole j → Named l j
+  ask-named False l j e = absurd (let z : _≡_ {A = ℕ} 0 1 = cc in omega arith)
+  ask-named Undefined l j e = absurd (open-not-sole (someRule f t l) j e)
+  ask-named True l j e = true-named l j e
 
 pub ask-open : (t : List ℤ) (tb : Table) (a : ℕ → Cell) (p : ℕ) → askOf t tb a p ≡ Unset → a p ≡ undefined
-ask-open t tb a p e = at (a p) (firstRule (supportsOf a p) t (tb .first) (tb .rules)) (sym (ask-is t tb a p) ∙ e)
+ask-open t tb a p e = at (a p) (sym (ask-is t tb a p) ∙ e)
   where
-    at : (c : Cell) (x : Place) → askBy (supportsOf a p) (forcedOf a) t (cellValue c) x ≡ Unset → c ≡ undefined
-    at undefined x h = refl
-    at (defined false l) x h = absurd (let z : _≡_ {A = ℕ} 0 1 = cc in omega arith)
-    at (defined true l) Nowhere h = absurd (let z : _≡_ {A = ℕ} 0 1 = cc in omega arith)
-    at (defined true l) (At i m) h = absurd (sole-not-unset i (firstRule (supportsOf a p) t (pastRule t i) m) (forcedOf a (ruleAt t i)) h)
+    at : (c : Cell) → askBy (supportsOf a p) (forcedOf a) t (cellValue c) (withHead t p (placesOf t tb)) ≡ Unset → c ≡ undefined
+    at undefined h = refl
+    at (defined false l) h = absurd (let z : _≡_ {A = ℕ} 0 1 = cc in omega arith)
+    at (defined true l) h = absurd (true-not-unset (supportsOf a p) (forcedOf a) t (withHead t p (placesOf t tb)) h)
 
--- a rule that is found lies in the table, and so do those after it
-pub rule-lies : (top most : ℕ) (f : Rule → Bool) (t : List ℤ) (i n : ℕ) → RulesLie top most t i n → (j m : ℕ) → firstRule f t i n ≡ At j m
-    → RuleLies top most t j × RulesLie top most t (pastRule t j) m
-unfolding firstRule RulesLie
-rule-lies top most f t i zero lies j m e = absurd (let z : _≡_ {A = ℕ} 0 1 = cc in omega arith)
-rule-lies top most f t i (suc n) lies j m e = at (f (ruleAt t i)) e (rule-lies top most f t (pastRule t i) n (lies .1) j m)
-  where
-    at : (b : Bool) → elim b [ true ↦ At i n | false ↦ firstRule f t (pastRule t i) n ] ≡ At j m
-        → (firstRule f t (pastRule t i) n ≡ At j m → RuleLies top most t j × RulesLie top most t (pastRule t j) m) → RuleLies top most t j × RulesLie top most t (pastRule t j) m
-    at true e g =
-        let s : i ≡ j = cc in
-        let u : n ≡ m = cc in
-        rw (sym s, sym u) lies
-    at false e g = g e
+module _ (t : List ℤ) (tb : Table) (a : ℕ → Cell) (p i : ℕ) (e : askOf t tb a p ≡ Sole i) where
+  named : Named (supportsOf a p) (forcedOf a) t (withHead t p (placesOf t tb)) i
+  named = ask-named (supportsOf a p) (forcedOf a) t (cellValue (a p)) (withHead t p (placesOf t tb)) i (sym (ask-is t tb a p) ∙ e)
 
-pub sole-lies : (t : List ℤ) (tb : Table) → Laid t tb → (a : ℕ → Cell) (p i : ℕ) → askOf t tb a p ≡ Sole i → RuleLies (tb .atoms) (tb .aggregates) t i
-sole-lies t tb laid a p i e = at (cellValue (a p)) (firstRule (supportsOf a p) t (tb .first) (tb .rules)) refl (sym (ask-is t tb a p) ∙ e)
-  where
-    at : (v : Value) (x : Place) → firstRule (supportsOf a p) t (tb .first) (tb .rules) ≡ x → askBy (supportsOf a p) (forcedOf a) t v x ≡ Sole i → RuleLies (tb .atoms) (tb .aggregates) t i
-    at False x g h = absurd (let z : _≡_ {A = ℕ} 0 1 = cc in omega arith)
-    at Undefined Nowhere g h = absurd (let z : _≡_ {A = ℕ} 0 1 = cc in omega arith)
-    at Undefined (At j m) g h = absurd (let z : _≡_ {A = ℕ} 0 1 = cc in omega arith)
-    at True Nowhere g h = absurd (let z : _≡_ {A = ℕ} 0 1 = cc in omega arith)
-    at True (At j m) g h =
-        let s : i ≡ j = sym (sole-same j i (firstRule (supportsOf a p) t (pastRule t j) m) (forcedOf a (ruleAt t j)) h) in
-        rw s (rule-lies (tb .atoms) (tb .aggregates) (supportsOf a p) t (tb .first) (tb .rules) (laid .rulesLie) j m g .0)
+  pub sole-lies : Laid t tb → RuleLies (tb .atoms) (tb .aggregates) t i
+  sole-lies laid =
+      let m = named in
+      subst (RuleLies (tb .atoms) (tb .aggregates) t) (m .0 .2) (with-lie tb t p (placesOf t tb) (places-lie tb t (tb .first) (tb .rules) (laid .rulesLie)) (m .0 .0) (m .0 .1))
+
+  pub sole-sets : (q : ℕ) × (v : Bool) × (forcedOf a (ruleAt t i) ≡ next.Set q v)
+  sole-sets = named .1
 
 -- ---- the records do not matter
 
@@ -206,10 +245,11 @@ module _ (vs : List ℕ) (rs : List Record) where
   ask-alone t tb p =
       let a = cells vs rs in
       let b = valued vs in
+      let l = withHead t p (placesOf t tb) in
       ask-is t tb a p
-      ∙ ap (λ (f : Rule → Bool). askBy f (forcedOf a) t (cellValue (a p)) (firstRule f t (tb .first) (tb .rules))) (supports-alone p)
-      ∙ ap (λ (g : Rule → Next). askBy (supportsOf b p) g t (cellValue (a p)) (firstRule (supportsOf b p) t (tb .first) (tb .rules))) (fun-ext (λ r. forced-alone r vs rs))
-      ∙ ap (λ (v : Value). askBy (supportsOf b p) (forcedOf b) t v (firstRule (supportsOf b p) t (tb .first) (tb .rules))) (interpretation.value-alone vs rs p)
+      ∙ ap (λ (f : Rule → Bool). askBy f (forcedOf a) t (cellValue (a p)) l) (supports-alone p)
+      ∙ ap (λ (g : Rule → Next). askBy (supportsOf b p) g t (cellValue (a p)) l) (fun-ext (λ r. forced-alone r vs rs))
+      ∙ ap (λ (v : Value). askBy (supportsOf b p) (forcedOf b) t v l) (interpretation.value-alone vs rs p)
       ∙ sym (ask-is t tb b p)
 
   pub blame-alone : (R : ℕ → Levels) (p : ℕ) (P : Program) → blameOf (cells vs rs) R p P ≡ blameOf (valued vs) R p P

@@ -36,24 +36,6 @@ module _ (l : List ℤ) (i : ℕ) where
   ended : length l ≤ i → atoms (drop i l) ≡ []
   ended h = ap atoms (drop-of-length-le l h)
 
-  module _ (p : ℕ) where
-    has-cons : (q : ℕ) (s : List ℕ) → has p (q ∷ s) ≡ eqb p q || has p s
-    unfolding has
-    has-cons q s = refl
-
-    has-nil : has p [] ≡ false
-    unfolding has
-    has-nil = refl
-
-    pub has-here : i < length l → here ≡ p → has p (atoms (drop i l)) ≡ true
-    has-here h e = ap (has p) (split h) ∙ has-cons here (atoms (drop (i + 1) l)) ∙ ap (λ (b : Bool). b || has p (atoms (drop (i + 1) l))) (eqb-same p here (sym e))
-
-    pub has-on : i < length l → (here ≡ p → ⊥) → has p (atoms (drop i l)) ≡ has p (atoms (drop (i + 1) l))
-    has-on h n = ap (has p) (split h) ∙ has-cons here (atoms (drop (i + 1) l)) ∙ ap (λ (b : Bool). b || has p (atoms (drop (i + 1) l))) (eqb-not p here (λ e. n (sym e)))
-
-    pub has-end : length l ≤ i → has p (atoms (drop i l)) ≡ false
-    has-end h = ap (has p) (ended h) ∙ has-nil
-
   abbrev pick : Bool → ℕ → Choice → Choice
   pick b q c = elim b [ true ↦ choice.Atom q | false ↦ c ]
 

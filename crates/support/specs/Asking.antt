@@ -3,18 +3,21 @@
 --   firstWith g v l    the first atom of l with the value v, g being the atoms' values;  otherTrue g p l: the first true one other than p
 --   witnessOf a p r    the witness of a rule that fails to support p, if it does;  witnessAt: the same as the code names it
 --   supportsOf a p r   p is in the head of r, and there is no witness
---   firstRule f t i n  the first of the n rules from i on that passes the test f, with the number of rules after it
+--   Candidates         rules with p in the head lie at the places of a list
+--   skipped, someRule  of the rules at a list of places: how many come before the first that passes a test, and whether one passes it
 --   forcedOf a r       the first atom that step e sets at rule r
 --   askOf t tb a p     what steps d and e ask at p
 --   blameOf a R p P    "the union of the witnesses' reasons over all rules with p in the head"
 --   didAsk             the working state after steps d and e, B being that union
 -- Assumes nothing.
-use Prim.Native.Nat.{ℕ, zero, suc}
+use Prim.Native.Nat.{ℕ, zero, suc, _<_}
+use mathlib.Core.Path.{_≡_}
 use mathlib.Core.Bool.{Bool, true, false, cond, not, _&&_}
 use mathlib.Core.Option.{Option, none, some}
 use mathlib.Core.List.{List, [], _∷_}
 use lib.Dec.{eqb}
 use lib.IntN.{ℤ}
+use lib.ListN.{length, getD}
 use Rattle.meaning.specs.Lists.{has}
 use Rattle.meaning.specs.Program.{Rule, Program}
 use Rattle.levels.specs.Levels.{Levels, noLevels, union}
@@ -24,7 +27,8 @@ use Rattle.interpretation.specs.declared.Value.{Value}
 use Rattle.interpretation.specs.declared.Value.the-variants.{True, False, Undefined}
 use Rattle.interpretation.specs.declared.Choice.{Choice}
 use Rattle.interpretation.specs.declared.Choice.the-variants as choice
-use Rattle.layout.specs.Layout.{atoms, partAt, posAt, negAt, aggsAt, pastRule, ruleAt}
+use Rattle.layout.specs.Layout.{atoms, partAt, posAt, negAt, aggsAt, ruleAt}
+use Rattle.heads.specs.Heads.{placesOf, withHead, AllLie}
 use Rattle.layout.specs.declared.Table.{Table}
 use Rattle.valuing.specs.Values.{saysTrue, saysFalse, saysUndefined, Lit, value}
 use Rattle.valuing.specs.Reasons.{reasonOf}
@@ -38,8 +42,6 @@ use Rattle.support.specs.declared.Next.{Next}
 use Rattle.support.specs.declared.Next.the-variants as next
 use Rattle.support.specs.declared.Witness.{Witness}
 use Rattle.support.specs.declared.Witness.the-variants as witness
-use Rattle.support.specs.declared.Place.{Place}
-use Rattle.support.specs.declared.Place.the-variants.{Nowhere, At}
 
 -- ---- atoms of a list, by their values
 
@@ -101,11 +103,22 @@ isNobody witness.Nobody = true
 isNobody (witness.Atom q) = false
 isNobody (witness.Literal k) = false
 
--- ---- the rules from i on
+-- ---- the rules at a list of places
 
-unfoldable pub firstRule : (Rule → Bool) → List ℤ → ℕ → ℕ → Place
-firstRule f t i zero = Nowhere
-firstRule f t i (suc n) = elim (f (ruleAt t i)) [ true ↦ At i n | false ↦ firstRule f t (pastRule t i) n ]
+-- a rule lies at each place, and it has p in the head
+pub record Candidates (t : List ℤ) (tb : Table) (p : ℕ) (l : List ℕ) : Type 0 where
+  pub lie : AllLie tb t l
+  pub headed : (k : ℕ) → k < length l → has p (ruleAt t (getD l k 0) .head) ≡ true
+
+-- how many come before the first that passes the test f
+unfoldable pub skipped : (Rule → Bool) → List ℤ → List ℕ → ℕ
+skipped f t [] = zero
+skipped f t (i ∷ l) = elim (f (ruleAt t i)) [ true ↦ zero | false ↦ suc (skipped f t l) ]
+
+-- one passes
+unfoldable pub someRule : (Rule → Bool) → List ℤ → List ℕ → Bool
+someRule f t [] = false
+someRule f t (i ∷ l) = elim (f (ruleAt t i)) [ true ↦ true | false ↦ someRule f t l ]
 
 -- ---- what is asked
 
@@ -123,21 +136,28 @@ unfoldable pub forcedOf : (ℕ → Cell) → Rule → Next
 forcedOf a r = forcedBy (valuesOf a) r
 
 -- the rule at i supports: is there another, and is there something to set?
-abbrev pub soleBy : ℕ → Place → Next → Ask
-soleBy i (At j m) n = Nothing
-soleBy i Nowhere (next.Set q v) = Sole i
-soleBy i Nowhere next.Nothing = Nothing
+abbrev pub soleBy : ℕ → Bool → Next → Ask
+soleBy i true n = Nothing
+soleBy i false (next.Set q v) = Sole i
+soleBy i false next.Nothing = Nothing
 
--- "No rule supports p: conflict if p is true; if undefined, p becomes false"; "p is true and one rule supports it"
-abbrev pub askBy : (Rule → Bool) → (Rule → Next) → List ℤ → Value → Place → Ask
-askBy f g t False s = Nothing
-askBy f g t Undefined Nowhere = Unset
-askBy f g t Undefined (At i m) = Nothing
-askBy f g t True Nowhere = Conflict
-askBy f g t True (At i m) = soleBy i (firstRule f t (pastRule t i) m) (g (ruleAt t i))
+-- "No rule supports p: .. if undefined, p becomes false"
+abbrev pub openBy : Bool → Ask
+openBy true = Nothing
+openBy false = Unset
+
+-- "No rule supports p: conflict if p is true"; "p is true and one rule supports it"
+unfoldable pub trueBy : (Rule → Bool) → (Rule → Next) → List ℤ → List ℕ → Ask
+trueBy f g t [] = Conflict
+trueBy f g t (i ∷ l) = elim (f (ruleAt t i)) [ true ↦ soleBy i (someRule f t l) (g (ruleAt t i)) | false ↦ trueBy f g t l ]
+
+abbrev pub askBy : (Rule → Bool) → (Rule → Next) → List ℤ → Value → List ℕ → Ask
+askBy f g t False l = Nothing
+askBy f g t Undefined l = openBy (someRule f t l)
+askBy f g t True l = trueBy f g t l
 
 unfoldable pub askOf : List ℤ → Table → (ℕ → Cell) → ℕ → Ask
-askOf t tb a p = askBy (supportsOf a p) (forcedOf a) t (cellValue (a p)) (firstRule (supportsOf a p) t (tb .first) (tb .rules))
+askOf t tb a p = askBy (supportsOf a p) (forcedOf a) t (cellValue (a p)) (withHead t p (placesOf t tb))
 
 -- ---- "the union of the witnesses' reasons"
 

@@ -1,6 +1,5 @@
 // Lists of atoms, as parts of the table, under the values of a partial interpretation. Meaning: `specs/Asking.antt`.
 ghost use mathlib.Core.Path.{_≡_};
-ghost use Rattle.meaning.specs.Lists.{has};
 ghost use Rattle.interpretation.specs.View.{valued};
 ghost use Rattle.layout.specs.Layout.{Members, atoms};
 ghost use Rattle.support.specs.Asking.{valuesOf, sameValue, firstWith, otherTrue};
@@ -28,20 +27,6 @@ pub fn same_value(v: Value, w: Value) -> bool
             Value::Undefined => true,
         },
     }
-}
-
-// Whether an atom is in a list.
-pub fn has_atom(l: &[i32], p: usize) -> bool
-    ensures { λ r. ⌜ r ≡ has p (atoms (now (l .entry))) ⌝ }
-{
-    let mut i: usize = 0;
-    while i < l.len() {
-        if words::atom(l, i) == p {
-            return true;
-        }
-        i += 1;
-    }
-    false
 }
 
 // The first atom of a list with a value.

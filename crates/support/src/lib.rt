@@ -8,10 +8,14 @@ ghost use Prim.Native.Nat.{_≤_, _<_};
 ghost use lib.ListN.{length};
 ghost use Rattle.levels.specs.View.{row, rows};
 ghost use Rattle.interpretation.specs.View.{valued};
-ghost use Rattle.layout.specs.Layout.{Laid, Members, RuleLies, RulesLie, pastRule, ruleAt, programOf};
+ghost use mathlib.Core.Bool.{true};
+ghost use Rattle.meaning.specs.Lists.{has};
+ghost use Rattle.layout.specs.Layout.{Laid, Members, RuleLies, ruleAt, programOf};
+ghost use Rattle.heads.specs.Heads.{Listed};
 ghost use Rattle.valuing.specs.Reasons.{reasonOf};
 ghost use Rattle.literals.specs.Scan.{literalLits, scanOf};
-ghost use Rattle.support.specs.Asking.{witnessOf, supportsOf, refutedBy, bodyWitness, witnessAt, firstRule, forcedOf, soleBy, askOf, blamedBy, blameOf};
+ghost use Rattle.support.specs.Asking.{witnessOf, supportsOf, refutedBy, bodyWitness, witnessAt, Candidates, skipped, someRule, forcedOf, soleBy, trueBy, askOf, blamedBy, blameOf};
+use heads::Lists;
 use interpretation::Choice;
 use interpretation::Value;
 use layout::Table;
@@ -37,12 +41,6 @@ pub enum Witness {
     Nobody,
     Atom(usize),
     Literal(usize),
-}
-
-// Where a rule was found, with the number of rules after it.
-pub enum Place {
-    Nowhere,
-    At(usize, usize),
 }
 
 // The atom that step e sets next at the rule at `at`: "that rule's other undefined head atoms become false, then its positive body atoms still undefined
@@ -114,93 +112,101 @@ pub fn witness_of(t: &[i32], tb: Table, at: usize, p: usize, values: &[u8; 256])
     body_witness(t, tb, at, values)
 }
 
-// Whether the rule at `at` supports p.
+// Whether the rule at `at`, which has p in its head, supports it.
 pub fn supports(t: &[i32], tb: Table, at: usize, p: usize, values: &[u8; 256]) -> bool
-    requires { ⌜ Laid (now t) tb × RuleLies (tb .atoms) (tb .aggregates) (now t) at ⌝ }
+    requires { ⌜ Laid (now t) tb × RuleLies (tb .atoms) (tb .aggregates) (now t) at × (has p (ruleAt (now t) at .head) ≡ true) ⌝ }
     ensures { λ r. ⌜ r ≡ supportsOf (valued (now (values .entry))) p (ruleAt (now (t .entry)) at) ⌝ }
 {
-    let head = layout::part(t, at);
-    if atoms::has_atom(head, p) {
-        let w = witness_of(t, tb, at, p, values);
-        return match w {
-            Witness::Nobody => true,
-            Witness::Atom(_) => false,
-            Witness::Literal(_) => false,
-        };
+    let w = witness_of(t, tb, at, p, values);
+    match w {
+        Witness::Nobody => true,
+        Witness::Atom(_) => false,
+        Witness::Literal(_) => false,
     }
-    false
 }
 
-// The first of `count` rules from index `from` on that supports p. The walk over the rules stands here and in `blame` alone.
-pub fn first_support(
-    t: &[i32],
-    tb: Table,
-    from: usize,
-    count: usize,
-    p: usize,
-    values: &[u8; 256],
-) -> Place
-    requires { ⌜ Laid (now t) tb × RulesLie (tb .atoms) (tb .aggregates) (now t) from count ⌝ }
-    ensures { λ r. ⌜ r ≡ firstRule (supportsOf (valued (now (values .entry))) p) (now (t .entry)) from count ⌝ }
+// How many of the rules at `l` come before the first that supports p. They all have p in the head.
+pub fn first_support(t: &[i32], tb: Table, l: &[u16], p: usize, values: &[u8; 256]) -> usize
+    requires { ⌜ Laid (now t) tb × Candidates (now t) tb p (now l) ⌝ }
+    ensures { λ r. ⌜ r ≡ skipped (supportsOf (valued (now (values .entry))) p) (now (t .entry)) (now (l .entry)) ⌝ }
 {
-    let mut at = from;
-    let mut left = count;
-    while 0 < left {
-        left -= 1;
+    let mut i: usize = 0;
+    while i < l.len() {
+        let at = l[i] as usize;
         if supports(t, tb, at, p, values) {
-            return Place::At(at, left);
+            return i;
         }
-        let next = layout::past_rule(t, at);
-        at = next;
+        i += 1;
     }
-    Place::Nowhere
+    i
 }
 
-// What step e asks where the rule at `at` supports p and no rule before it does, with `left` rules after it.
-pub fn sole(t: &[i32], tb: Table, at: usize, left: usize, p: usize, values: &[u8; 256]) -> Ask
-    requires { ⌜ Laid (now t) tb × RuleLies (tb .atoms) (tb .aggregates) (now t) at × RulesLie (tb .atoms) (tb .aggregates) (now t) (pastRule (now t) at) left ⌝ }
-    ensures { λ r. ⌜ r ≡ soleBy at (firstRule (supportsOf (valued (now (values .entry))) p) (now (t .entry)) (pastRule (now (t .entry)) at) left) (forcedOf (valued (now (values .entry))) (ruleAt (now (t .entry)) at)) ⌝ }
+// Whether one of them does.
+pub fn supported(t: &[i32], tb: Table, l: &[u16], p: usize, values: &[u8; 256]) -> bool
+    requires { ⌜ Laid (now t) tb × Candidates (now t) tb p (now l) ⌝ }
+    ensures { λ r. ⌜ r ≡ someRule (supportsOf (valued (now (values .entry))) p) (now (t .entry)) (now (l .entry)) ⌝ }
+{
+    let k = first_support(t, tb, l, p, values);
+    k < l.len()
+}
+
+// What step e asks where the rule at `at` supports p, and no other but perhaps one of those at `others`.
+pub fn sole(t: &[i32], tb: Table, at: usize, others: &[u16], p: usize, values: &[u8; 256]) -> Ask
+    requires { ⌜ Laid (now t) tb × RuleLies (tb .atoms) (tb .aggregates) (now t) at × Candidates (now t) tb p (now others) ⌝ }
+    ensures { λ r. ⌜ r ≡ soleBy at (someRule (supportsOf (valued (now (values .entry))) p) (now (t .entry)) (now (others .entry))) (forcedOf (valued (now (values .entry))) (ruleAt (now (t .entry)) at)) ⌝ }
 {
     let f = forced(t, tb, at, values);
     match f {
         Next::Nothing => Ask::Nothing,
         Next::Set(_, _) => {
-            let next = layout::past_rule(t, at);
-            let s = first_support(t, tb, next, left, p, values);
-            match s {
-                Place::Nowhere => Ask::Sole(at),
-                Place::At(_, _) => Ask::Nothing,
+            if supported(t, tb, others, p, values) {
+                return Ask::Nothing;
             }
+            Ask::Sole(at)
         }
     }
 }
 
+// What steps d and e ask at p, which is true, the rules at `l` being those with p in the head.
+pub fn asked_true(t: &[i32], tb: Table, l: &[u16], p: usize, values: &[u8; 256]) -> Ask
+    requires { ⌜ Laid (now t) tb × Candidates (now t) tb p (now l) ⌝ }
+    ensures { λ r. ⌜ r ≡ trueBy (supportsOf (valued (now (values .entry))) p) (forcedOf (valued (now (values .entry)))) (now (t .entry)) (now (l .entry)) ⌝ }
+{
+    let k = first_support(t, tb, l, p, values);
+    if k < l.len() {
+        let at = l[k] as usize;
+        let next = k + 1;
+        let others = &l[next..];
+        return sole(t, tb, at, others, p, values);
+    }
+    Ask::Conflict
+}
+
 // What steps d and e ask at atom p.
-pub fn asked(t: &[i32], tb: Table, p: usize, values: &[u8; 256]) -> Ask
-    requires { ⌜ Laid (now t) tb × (1 ≤ p) × (p ≤ tb .atoms) ⌝ }
+pub fn asked(t: &[i32], tb: Table, lists: &Lists, p: usize, values: &[u8; 256]) -> Ask
+    requires { ⌜ Laid (now t) tb × Listed (now t) tb (now lists) × (1 ≤ p) × (p ≤ tb .atoms) ⌝ }
     ensures { λ r. ⌜ r ≡ askOf (now (t .entry)) tb (valued (now (values .entry))) p ⌝ }
 {
     let v = interpretation::value_of(values, p);
     match v {
         Value::False => Ask::Nothing,
         Value::Undefined => {
-            let s = first_support(t, tb, tb.first, tb.rules, p, values);
-            match s {
-                Place::Nowhere => Ask::Unset,
-                Place::At(_, _) => Ask::Nothing,
+            let all = &lists[..];
+            let l = heads::list(all, p);
+            if supported(t, tb, l, p, values) {
+                return Ask::Nothing;
             }
+            Ask::Unset
         }
         Value::True => {
-            let s = first_support(t, tb, tb.first, tb.rules, p, values);
-            match s {
-                Place::Nowhere => Ask::Conflict,
-                Place::At(at, left) => sole(t, tb, at, left, p, values),
-            }
+            let all = &lists[..];
+            let l = heads::list(all, p);
+            asked_true(t, tb, l, p, values)
         }
     }
 }
 
-// The share of the rule at `at` in the blame of p, joined to a set: its witness's reason, if p is in its head.
+// The share of the rule at `at`, which has p in its head, in the blame of p, joined to a set: its witness's reason.
 pub fn blamed(
     t: &[i32],
     tb: Table,
@@ -210,45 +216,42 @@ pub fn blamed(
     reasons: &[[u64; 4]; 256],
     more: [u64; 4],
 ) -> [u64; 4]
-    requires { ⌜ Laid (now t) tb × RuleLies (tb .atoms) (tb .aggregates) (now t) at ⌝ }
+    requires { ⌜ Laid (now t) tb × RuleLies (tb .atoms) (tb .aggregates) (now t) at × (has p (ruleAt (now t) at .head) ≡ true) ⌝ }
     ensures { λ r. ⌜ row r ≡ blamedBy (witnessOf (valued (now (values .entry))) p) (reasonOf (valued (now (values .entry))) (rows (now (reasons .entry)))) p (ruleAt (now (t .entry)) at) (row more) ⌝ }
 {
-    let head = layout::part(t, at);
-    if atoms::has_atom(head, p) {
-        let w = witness_of(t, tb, at, p, values);
-        return match w {
-            Witness::Nobody => more,
-            Witness::Atom(q) => literals::atom_reason(q, values, reasons, more),
-            Witness::Literal(k) => {
-                let place = layout::literals_at(t, at);
-                let l = layout::part(t, place);
-                literals::literal_reason(t, tb, l, k, values, reasons, more)
-            }
-        };
+    let w = witness_of(t, tb, at, p, values);
+    match w {
+        Witness::Nobody => more,
+        Witness::Atom(q) => literals::atom_reason(q, values, reasons, more),
+        Witness::Literal(k) => {
+            let place = layout::literals_at(t, at);
+            let l = layout::part(t, place);
+            literals::literal_reason(t, tb, l, k, values, reasons, more)
+        }
     }
-    more
 }
 
 // "the union of the witnesses' reasons over all rules with p in the head"
 pub fn blame(
     t: &[i32],
     tb: Table,
+    lists: &Lists,
     p: usize,
     values: &[u8; 256],
     reasons: &[[u64; 4]; 256],
 ) -> [u64; 4]
-    requires { ⌜ Laid (now t) tb ⌝ }
+    requires { ⌜ Laid (now t) tb × Listed (now t) tb (now lists) × (1 ≤ p) × (p ≤ tb .atoms) ⌝ }
     ensures { λ r. ⌜ row r ≡ blameOf (valued (now (values .entry))) (rows (now (reasons .entry))) p (programOf (now (t .entry)) tb) ⌝ }
 {
+    let all = &lists[..];
+    let l = heads::list(all, p);
     let mut acc = levels::empty();
-    let mut at = tb.first;
-    let mut left = tb.rules;
-    while 0 < left {
-        left -= 1;
+    let mut k: usize = 0;
+    while k < l.len() {
+        let at = l[k] as usize;
         let more = blamed(t, tb, at, p, values, reasons, acc);
         acc = more;
-        let next = layout::past_rule(t, at);
-        at = next;
+        k += 1;
     }
     acc
 }

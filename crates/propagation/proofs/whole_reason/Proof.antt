@@ -30,7 +30,7 @@ returns : tie.Need-returns
 returns c =
     let a = c .before .before .before .args in
     c .union .ensures
-    ∙ ap (λ (A : Levels). union A (row (c .before .before .blame .result))) (sym (rows-at (a .reasons .now) (a .p) (c .before .before .before .pre .1)))
+    ∙ ap (λ (A : Levels). union A (row (c .before .before .blame .result))) (sym (rows-at (a .reasons .now) (a .p) (c .before .before .before .pre .2)))
     ∙ ap (union (rows (a .reasons .now) (a .p))) (c .before .before .blame .ensures)
 
 pub whole-reason-spec : {M : Type 1} → statement M

@@ -17,7 +17,7 @@ use Rattle.valuing.specs.Values.{aggLit}
 use Rattle.valuing.specs.Reasons.{reasonOf}
 use Rattle.support.specs.declared.Witness.{Witness}
 use Rattle.support.specs.Asking.{witnessOf, witnessAt, blamedBy}
-use Rattle.support.proofs.Witnesses.{shareOf, blamed-at, witness-atom, witness-literal}
+use Rattle.support.proofs.Witnesses.{rule-head, shareOf, blamed-at, witness-atom, witness-literal}
 use borrow.Author.Needs.{needs}
 use Rattle.support.proofs.blamed.Statement.{statement}
 use Rattle.support.proofs.blamed.Tie as tie
@@ -26,41 +26,27 @@ use Rattle.support.proofs.blamed.Lts as lts
 use Rattle.layout.proofs.part.Reads as part-reads
 use Rattle.literals.proofs.atom_reason.Reads as atom-reason-reads
 use Rattle.literals.proofs.literal_reason.Reads as literal-reason-reads
-use Rattle.support.proofs.atoms.has_atom.Reads as has-atom-reads
 use Rattle.layout.proofs.literals_at.Reads as literals-at-reads
 use Rattle.support.proofs.witness_of.Reads as witness-of-reads
 
-inside : (c : tie.After-part) → let a = c .before .args in RuleIn (a .tb .atoms) (ruleAt (a .t .now) (a .at))
-inside c =
-    let s = c .before in
-    rule-in (s .args .t .now) (s .args .tb) (s .pre .0) (s .args .at) (s .pre .1)
+inside : (s : tie.Start) → let a = s .args in RuleIn (a .tb .atoms) (ruleAt (a .t .now) (a .at))
+inside s = rule-in (s .args .t .now) (s .args .tb) (s .pre .0) (s .args .at) (s .pre .1)
 
--- the share by the test of the head and the witness
-tested : (c : tie.After-has-atom) → let a = c .before .before .args in
-    blamedBy (witnessOf (valued (a .values .now)) (a .p)) (reasonOf (valued (a .values .now)) (rows (a .reasons .now))) (a .p) (ruleAt (a .t .now) (a .at)) (row (a .more)) ≡ cond (c .has-atom .result) (shareOf (valued (a .values .now)) (a .t .now) (a .at) (rows (a .reasons .now)) (witnessAt (valued (a .values .now)) (a .t .now) (a .p) (a .at)) (row (a .more))) (row (a .more))
-tested c =
-    let a = c .before .before .args in
-    blamed-at (a .tb .atoms) (a .t .now) (a .at) (valued (a .values .now)) (inside (c .before)) (rows (a .reasons .now)) (a .p) (row (a .more))
-    ∙ ap (λ (b : Bool). cond b (shareOf (valued (a .values .now)) (a .t .now) (a .at) (rows (a .reasons .now)) (witnessAt (valued (a .values .now)) (a .t .now) (a .p) (a .at)) (row (a .more))) (row (a .more)))
-    (sym (c .has-atom .ensures ∙ ap (λ (l : List ℤ). has (a .p) (atoms l)) (c .before .part .ensures)))
-
--- p is in the head
-by-witness : (c : tie.After-witness-of) (w : Witness) → c .witness-of .result ≡ w → let a = c .before .before .before .before .args in
+-- the share by the witness, p being in the head
+by-witness : (c : tie.After-witness-of) (w : Witness) → c .witness-of .result ≡ w → let a = c .before .args in
     blamedBy (witnessOf (valued (a .values .now)) (a .p)) (reasonOf (valued (a .values .now)) (rows (a .reasons .now))) (a .p) (ruleAt (a .t .now) (a .at)) (row (a .more)) ≡ shareOf (valued (a .values .now)) (a .t .now) (a .at) (rows (a .reasons .now)) w (row (a .more))
 by-witness c w e =
-    let a = c .before .before .before .before .args in
-    tested (c .before .before) ∙ ap (λ (b : Bool). cond b (shareOf (valued (a .values .now)) (a .t .now) (a .at) (rows (a .reasons .now)) (witnessAt (valued (a .values .now)) (a .t .now) (a .p) (a .at)) (row (a .more))) (row (a .more))) (c .before .if1 .taken)
-    ∙ ap (λ (x : Witness). shareOf (valued (a .values .now)) (a .t .now) (a .at) (rows (a .reasons .now)) x (row (a .more))) (sym (c .witness-of .ensures) ∙ e)
+    let s = c .before in
+    let a = s .args in
+    let x = valued (a .values .now) in
+    let R = rows (a .reasons .now) in
+    blamed-at (a .tb .atoms) (a .t .now) (a .at) x (inside s) R (a .p) (row (a .more))
+    ∙ ap (λ (b : Bool). cond b (shareOf x (a .t .now) (a .at) R (witnessAt x (a .t .now) (a .p) (a .at)) (row (a .more))) (row (a .more))) (ap (has (a .p)) (sym (rule-head (a .tb .atoms) (a .t .now) (a .at) x)) ∙ s .pre .2)
+    ∙ ap (λ (y : Witness). shareOf x (a .t .now) (a .at) R y (row (a .more))) (sym (c .witness-of .ensures) ∙ e)
 
 -- where its list of aggregate literals stands
-listed : (c : tie.After-part2) → let a = c .before .before .before .before .before .before .before .before .before .args in c .part2 .result .now ≡ partAt (a .t .now) (aggsAt (a .t .now) (a .at))
-listed c = let a = c .before .before .before .before .before .before .before .before .before .args in c .part2 .ensures ∙ ap (partAt (a .t .now)) (c .before .literals-at .ensures)
-
-part-requires : tie.Need-part-requires
-part-requires c κs = search needs
-
-has-atom-requires : tie.Need-has-atom-requires
-has-atom-requires c κs = search needs
+listed : (c : tie.After-part) → let a = c .before .before .before .before .before .before .args in c .part .result .now ≡ partAt (a .t .now) (aggsAt (a .t .now) (a .at))
+listed c = let a = c .before .before .before .before .before .before .args in c .part .ensures ∙ ap (partAt (a .t .now)) (c .before .literals-at .ensures)
 
 witness-of-requires : tie.Need-witness-of-requires
 witness-of-requires c κs = search needs
@@ -74,9 +60,9 @@ enum-known-w c = search needs
 atom-reason-requires : tie.Need-atom-reason-requires
 atom-reason-requires c κs =
     let d = c .before .before .before in
-    let s = d .before .before .before .before in
+    let s = d .before in
     let a = s .args in
-    let h = witness-atom (a .tb .atoms) (a .t .now) (a .at) (valued (a .values .now)) (inside (d .before .before .before)) (a .p) (c .before .w .given .0 .0) (sym (d .witness-of .ensures) ∙ c .before .w .given .1) in
+    let h = witness-atom (a .tb .atoms) (a .t .now) (a .at) (valued (a .values .now)) (inside s) (a .p) (c .before .w .given .0 .0) (sym (d .witness-of .ensures) ∙ c .before .w .given .1) in
     let f = s .pre .0 .fewAtoms in
     (h .0, omega (arith, h .1, f))
 
@@ -86,15 +72,15 @@ enum-known-w-2 c = search needs
 literals-at-requires : tie.Need-literals-at-requires
 literals-at-requires c κs = search needs
 
-part-requires-2 : tie.Need-part-requires-2
-part-requires-2 c κs = rw (c .literals-at .ensures) (c .before .before .before .before .before .before .before .before .pre .1 .aggs .fits)
+part-requires : tie.Need-part-requires
+part-requires c κs = rw (c .literals-at .ensures) (c .before .before .before .before .before .pre .1 .aggs .fits)
 
 literal-reason-requires : tie.Need-literal-reason-requires
 literal-reason-requires c κs =
     let d = c .before .before .before .before .before in
-    let s = d .before .before .before .before in
+    let s = d .before in
     let a = s .args in
-    let h = witness-literal (a .tb .atoms) (a .t .now) (a .at) (valued (a .values .now)) (inside (d .before .before .before)) (a .p) (c .before .before .before .w2 .given .0 .0) (sym (d .witness-of .ensures) ∙ c .before .before .before .w2 .given .1) in
+    let h = witness-literal (a .tb .atoms) (a .t .now) (a .at) (valued (a .values .now)) (inside s) (a .p) (c .before .before .before .w2 .given .0 .0) (sym (d .witness-of .ensures) ∙ c .before .before .before .w2 .given .1) in
     (s .pre .0, subst (Members (a .tb .aggregates)) (sym (listed c)) (s .pre .1 .aggs .members), subst (λ (l : List ℤ). c .before .before .before .w2 .given .0 .0 < length l) (sym (listed c)) h)
 
 returns : tie.Need-returns
@@ -105,32 +91,24 @@ returns-2 c = c .atom-reason .ensures ∙ sym (by-witness (c .before .before .be
 
 returns-3 : tie.Need-returns-3
 returns-3 c =
-    let a = c .before .before .before .before .before .before .before .before .before .before .args in
+    let a = c .before .before .before .before .before .before .before .args in
     let k = c .before .before .before .before .w2 .given .0 .0 in
     c .literal-reason .ensures
     ∙ ap (λ (l : List ℤ). union (reasonOf (valued (a .values .now)) (rows (a .reasons .now)) (aggLit (literalOf (a .t .now) (getD l k (pos 0))))) (row (a .more))) (listed (c .before))
     ∙ sym (by-witness (c .before .before .before .before .before .before) _ (c .before .before .before .before .w2 .given .1))
 
-returns-4 : tie.Need-returns-4
-returns-4 c =
-    let a = c .before .before .before .args in
-    sym (tested (c .before) ∙ ap (λ (b : Bool). cond b (shareOf (valued (a .values .now)) (a .t .now) (a .at) (rows (a .reasons .now)) (witnessAt (valued (a .values .now)) (a .t .now) (a .p) (a .at)) (row (a .more))) (row (a .more))) (c .if1 .left))
-
 pub blamed-spec : {M : Type 1} → statement M
 blamed-spec =
     tie.close
     (tie.spec
-    part-requires
-    has-atom-requires
     witness-of-requires
     enum-told
     enum-known-w
     atom-reason-requires
     enum-known-w-2
     literals-at-requires
-    part-requires-2
+    part-requires
     literal-reason-requires
     returns
     returns-2
-    returns-3
-    returns-4)
+    returns-3)

@@ -15,7 +15,7 @@ use Rattle.interpretation.specs.declared.Value.{Value}
 use Rattle.interpretation.specs.declared.Value.the-variants.{True}
 use Rattle.layout.specs.Layout.{atoms}
 use Rattle.support.specs.Asking.{valuesOf, sameValue, firstWith, otherTrue}
-use Rattle.support.proofs.Walks.{eqb-same, eqb-not, has-here, has-on, has-end, with-here, with-on, with-end, other-here, other-on, other-end}
+use Rattle.support.proofs.Walks.{eqb-same, eqb-not, with-here, with-on, with-end, other-here, other-on, other-end}
 use Rattle.support.proofs.atoms.first_with.Statement.{statement}
 use Rattle.support.proofs.atoms.first_with.Tie as tie
 use Rattle.support.proofs.atoms.first_with.Reads as reads

@@ -21,7 +21,7 @@ use Rattle.search.specs.Base.{base}
 use Rattle.search.proofs.Loop.{Ends}
 use Rattle.jumping.proofs.Ordered.{Ordered, level-in, propagate-ordered}
 use Rattle.jumping.proofs.Turns.{turn-is, back}
-use Rattle.jumping.proofs.search.Tie as tie
+use Rattle.jumping.proofs.search_by.Tie as tie
 
 -- one reason replaced
 abbrev pub put : ℕ → Levels → (ℕ → Levels) → ℕ → Levels
@@ -36,12 +36,12 @@ abbrev pub config : code.Interpretation → List (List ℕ) → ℕ → ℕ → 
 config it reasons ch sk g = record { interpretation = view it; reason = rows reasons; choices = ch; skips = sk; skipped = g }
 
 abbrev pub Inv-loop : tie.InvT-loop
-Inv-loop t tb limit it₀ reasons₀ choices₀ skips₀ it reasons choices skips =
+Inv-loop t tb lists limit it₀ reasons₀ choices₀ skips₀ it reasons choices skips =
     Ordered (tb .atoms) (view it) × (skips + it .depth ≤ choices) × (choices ≤ limit)
     × ((g : List Branch) × ((o : Outcome) → Ends (problem t tb) jump limit (config it reasons choices skips g) o → Ends (problem t tb) jump limit (start (problem t tb)) o))
 
 abbrev pub μ-loop : tie.MeasureT-loop
-μ-loop t tb limit it₀ reasons₀ choices₀ skips₀ it reasons choices skips = (limit - choices) * suc (tb .atoms) + it .depth
+μ-loop t tb lists limit it₀ reasons₀ choices₀ skips₀ it reasons choices skips = (limit - choices) * suc (tb .atoms) + it .depth
 
 -- the interpretation that propagation handed back: levels and choices as they were
 pub state : (c : tie.After-propagate Inv-loop μ-loop) → let b = c .before in let a = b .before .before .before .args in
@@ -53,14 +53,14 @@ ordered c =
     let b = c .before in
     let a = b .before .before .before .args in
     subst (Ordered (a .tb .atoms)) (sym (state c))
-    (propagate-ordered (a .tb .atoms) (programOf (a .t .now) (a .tb)) (atoms-in (a .t .now) (a .tb) (b .before .before .before .pre)) (view (b .loop .it)) (rows (b .loop .reasons)) (b .loop .inv .0))
+    (propagate-ordered (a .tb .atoms) (programOf (a .t .now) (a .tb)) (atoms-in (a .t .now) (a .tb) (b .before .before .before .pre .0)) (view (b .loop .it)) (rows (b .loop .reasons)) (b .loop .inv .0))
 
 -- the depth is what it was, and at most 256
 pub depth : (c : tie.After-propagate Inv-loop μ-loop) → (c .propagate .result .it .depth ≡ c .before .loop .it .depth) × (c .propagate .result .it .depth ≤ 256)
 depth c =
     let s = c .before .before .before .before in
     let l = level-in (s .args .tb .atoms) (view (c .propagate .result .it)) (ordered c) in
-    let f = s .pre .fewAtoms in
+    let f = s .pre .0 .fewAtoms in
     (ap (λ (x : Interpretation). x .level) (state c), omega arith)
 
 -- the turn, from what propagation handed back

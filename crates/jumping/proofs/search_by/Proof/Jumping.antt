@@ -20,8 +20,8 @@ use Rattle.search.proofs.Loop.{ends-end, ends-go, ends-solve}
 use Rattle.search.proofs.Parts.{target-le}
 use Rattle.jumping.proofs.Ordered.{Ordered, choice-in, ordered-jump}
 use Rattle.jumping.proofs.Turns.{conflicts, back, goBack-go, goBack-end}
-use Rattle.jumping.proofs.search.Tie as tie
-use Rattle.jumping.proofs.search.Proof.Turned.{put, problem, config, Inv-loop, μ-loop, ordered, depth, turned}
+use Rattle.jumping.proofs.search_by.Tie as tie
+use Rattle.jumping.proofs.search_by.Proof.Turned.{put, problem, config, Inv-loop, μ-loop, ordered, depth, turned}
 
 pub cast-k : tie.Need-cast-k Inv-loop μ-loop
 cast-k c = let h = depth (c .before .before .before .before .before) in omega arith
@@ -91,7 +91,7 @@ choice c =
     let i = choice-in (x .before .before .before .before .args .tb .atoms) (view s) (ordered x) m l u in
     let i1 = i .1 in
     let i2 = i .2 in
-    let w = x .before .before .before .before .pre .fewAtoms in
+    let w = x .before .before .before .before .pre .0 .fewAtoms in
     (l, u, depth x .1, omega arith, omega arith, e)
 
 pub sub-j : tie.Need-sub-j Inv-loop μ-loop

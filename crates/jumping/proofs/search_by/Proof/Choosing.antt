@@ -22,8 +22,8 @@ use Rattle.search.proofs.Loop.{ends-go}
 use Rattle.search.proofs.Parts.{lowest-some}
 use Rattle.jumping.proofs.Ordered.{Ordered, ordered-open}
 use Rattle.jumping.proofs.Turns.{chooses}
-use Rattle.jumping.proofs.search.Tie as tie
-use Rattle.jumping.proofs.search.Proof.Turned.{put, problem, config, Inv-loop, μ-loop, ordered, depth, turned}
+use Rattle.jumping.proofs.search_by.Tie as tie
+use Rattle.jumping.proofs.search_by.Proof.Turned.{put, problem, config, Inv-loop, μ-loop, ordered, depth, turned}
 
 pub enum-known-turn : tie.Need-enum-known-turn Inv-loop μ-loop
 enum-known-turn c = search needs
@@ -43,7 +43,7 @@ picked c =
     let x = chooses (programOf (a .t .now) (a .tb)) (a .tb .atoms) (a .limit) (config (r .it) (n .rows-of .result) (b .loop .choices) (b .loop .skips) []) (r .out) (row (r .why)) p (sym (d .decide .ensures) ∙ c .turn .given .1) in
     let w = lowest-some (cells (r .it .values) (r .it .records)) (a .tb .atoms) p (x .1) in
     let f = ordered (n .before) .free p (w .0) (w .2) in
-    let z = b .before .before .before .pre .fewAtoms in
+    let z = b .before .before .before .pre .0 .fewAtoms in
     let lo = w .0 in
     let hi = w .1 in
     (lo, omega arith, omega arith, ltb-true (b .loop .choices) (a .limit) (x .2), x .1)
