@@ -119,11 +119,8 @@ pub fn rest_true(t: &[i32], tb: Table, at: usize, values: &[u8; 256]) -> bool
 {
     let i = layout::past(t, at);
     let j = layout::past(t, i);
-    let n = rules::with_list(Step::Conflict, t, j, false, values);
-    let k = layout::past(t, j);
-    let aggregates = layout::part(t, k);
-    let d = rules::literals_ask(t, tb, aggregates, values);
-    rules::is_conflict(rules::together(n, d))
+    let rest = rules::with_rest(Step::Conflict, t, tb, j, values);
+    rules::is_conflict(rest)
 }
 
 // All positive atoms of the rule at `at` are marked, and the rest of its body is true.

@@ -111,9 +111,6 @@ module _ (a : ℕ → Cell) (t : List ℤ) (at : ℕ) where
   pub stops-pos : together headAsks posAsks ≡ Nothing → demandOf a (ruleAt t at) ≡ Nothing
   stops-pos e = demand-all ∙ ap (λ (d : Step). together (together d negAsks) aggsAsk) e
 
-  pub stops-neg : together (together headAsks posAsks) negAsks ≡ Nothing → demandOf a (ruleAt t at) ≡ Nothing
-  stops-neg e = demand-all ∙ ap (λ (d : Step). together d aggsAsk) e
-
 -- ---- the reasons of a rule's four lists
 
 pub reasons-parts : (a : ℕ → Cell) (R : ℕ → Levels) (r : Rule)

@@ -2,13 +2,13 @@
 // what the rule asks, and the reason for it. Meaning: `specs/Demand.antt`; laws for callers' proofs: `proofs/Rule.antt` and `proofs/Alone.antt`.
 // Nothing here writes.
 ghost use mathlib.Core.Path.{_≡_};
-ghost use mathlib.Core.Bool.{Bool, not};
+ghost use mathlib.Core.Bool.{Bool, false, not};
 ghost use mathlib.Core.List.{_++_};
 ghost use Prim.Native.Nat.{_≤_};
 ghost use lib.ListN.{length};
 ghost use Rattle.levels.specs.View.{row, rows};
 ghost use Rattle.interpretation.specs.View.{valued};
-ghost use Rattle.layout.specs.Layout.{Laid, Members, Listed, RuleLies, partAt, ruleAt};
+ghost use Rattle.layout.specs.Layout.{Laid, Members, Listed, RuleLies, partAt, pastAt, ruleAt};
 ghost use Rattle.valuing.specs.Reasons.{reasonsOf};
 ghost use Rattle.steps.specs.Steps.{headLits, bodyLits};
 ghost use Rattle.literals.specs.Scan.{atomLits, literalLits};
@@ -146,6 +146,22 @@ pub fn with_list(so: Step, t: &[i32], at: usize, sign: bool, values: &[u8; 256])
     }
 }
 
+// What part of a rule asks, with its negated atoms, listed at `at`, and its aggregate literals too. Few rules come this far: apart from `demand`, it
+// keeps that one small and fast.
+pub fn with_rest(so: Step, t: &[i32], tb: Table, at: usize, values: &[u8; 256]) -> Step
+    requires { ⌜ Laid (now t) tb × Listed 256 (now t) at × Listed (tb .aggregates) (now t) (pastAt (now t) at) ⌝ }
+    ensures { λ r. ⌜ r ≡ together (together so (asks (valued (now (values .entry))) (atomLits false (partAt (now (t .entry)) at)))) (asks (valued (now (values .entry))) (literalLits (now (t .entry)) (partAt (now (t .entry)) (pastAt (now (t .entry)) at)))) ⌝ }
+{
+    let n = with_list(so, t, at, false, values);
+    if is_nothing(n) {
+        return Step::Nothing;
+    }
+    let k = layout::past(t, at);
+    let aggregates = layout::part(t, k);
+    let d = literals_ask(t, tb, aggregates, values);
+    together(n, d)
+}
+
 // What the rule asks that begins at `at`: its head atoms negated, then its body. As soon as nothing can be asked, nothing more is read.
 pub fn demand(t: &[i32], tb: Table, at: usize, values: &[u8; 256]) -> Step
     requires { ⌜ Laid (now t) tb × RuleLies (tb .atoms) (tb .aggregates) (now t) at ⌝ }
@@ -161,14 +177,7 @@ pub fn demand(t: &[i32], tb: Table, at: usize, values: &[u8; 256]) -> Step
         return Step::Nothing;
     }
     let j = layout::past(t, i);
-    let n = with_list(p, t, j, false, values);
-    if is_nothing(n) {
-        return Step::Nothing;
-    }
-    let k = layout::past(t, j);
-    let aggregates = layout::part(t, k);
-    let d = literals_ask(t, tb, aggregates, values);
-    together(n, d)
+    with_rest(p, t, tb, j, values)
 }
 
 // The reason of what steps a to c do at the rule that begins at `at`: the union over its literals. The one that is set is undefined and adds nothing.

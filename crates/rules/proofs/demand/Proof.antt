@@ -10,13 +10,13 @@ use lib.IntN.{ℤ}
 use lib.ListN.{length}
 use Rattle.interpretation.specs.State.{Cell}
 use Rattle.interpretation.specs.View.{valued}
-use Rattle.layout.specs.Layout.{Members, Listed, partAt, pastAt, posAt, negAt, aggsAt}
+use Rattle.layout.specs.Layout.{Listed, partAt, pastAt, posAt, negAt}
 use Rattle.literals.specs.Scan.{atomLits, literalLits}
 use Rattle.rules.specs.declared.Step.{Step}
 use Rattle.rules.specs.declared.Step.the-variants.{Nothing}
 use Rattle.rules.specs.Demand.{together, asks}
 use Rattle.rules.proofs.Asks.{is-nothing}
-use Rattle.rules.proofs.Scanned.{headAsks, posAsks, negAsks, aggsAsk, demand-all, stops-head, stops-pos, stops-neg, listed-wide}
+use Rattle.rules.proofs.Scanned.{headAsks, posAsks, demand-all, stops-head, stops-pos, listed-wide}
 use Rattle.rules.proofs.demand.Statement.{statement}
 use Rattle.rules.proofs.demand.Tie as tie
 
@@ -34,15 +34,6 @@ second c = c .past .ensures
 third : (c : tie.After-past2) → let b = c .before .before .before .before in c .past2 .result ≡ negAt (table (b .before .before .before .before)) (b .before .before .before .before .args .at)
 third c = let b = c .before .before .before .before in c .past2 .ensures ∙ ap (pastAt (table (b .before .before .before .before))) (second b)
 
-fourth : (c : tie.After-past3)
-    → let b = c .before .before .before .before in
-    let a = b .before .before .before .before in
-    c .past3 .result ≡ aggsAt (table (a .before .before .before .before)) (a .before .before .before .before .args .at)
-fourth c =
-    let b = c .before .before .before .before in
-    let a = b .before .before .before .before in
-    c .past3 .ensures ∙ ap (pastAt (table (a .before .before .before .before))) (third b)
-
 -- ---- what the rule asks so far
 
 so-head : (c : tie.After-with-list) → c .with-list .result ≡ headAsks (cell (c .before)) (table (c .before)) (c .before .args .at)
@@ -54,14 +45,6 @@ so-pos : (c : tie.After-with-list2)
 so-pos c =
     let s = c .before .before .before .before .before in
     c .with-list2 .ensures ∙ ap₂ (λ (d : Step) (i : ℕ). together d (asks (cell s) (atomLits true (partAt (table s) i)))) (so-head (c .before .before .before .before)) (second (c .before))
-
-so-neg : (c : tie.After-with-list3)
-    → let s = c .before .before .before .before .before .before .before .before .before in
-    c .with-list3 .result
-    ≡ together (together (headAsks (cell s) (table s) (s .args .at)) (posAsks (cell s) (table s) (s .args .at))) (negAsks (cell s) (table s) (s .args .at))
-so-neg c =
-    let s = c .before .before .before .before .before .before .before .before .before in
-    c .with-list3 .ensures ∙ ap₂ (λ (d : Step) (i : ℕ). together d (asks (cell s) (atomLits false (partAt (table s) i)))) (so-pos (c .before .before .before .before)) (third (c .before))
 
 -- ---- the calls
 
@@ -88,40 +71,13 @@ past-requires-2 c κs =
     let s = b .before .before .before .before in
     subst (λ (i : ℕ). pastAt (table s) i ≤ length (table s)) (sym (second b)) (s .pre .1 .poss .fits)
 
-with-list-requires-3 : tie.Need-with-list-requires-3
-with-list-requires-3 c κs =
-    let s = c .before .before .before .before .before .before .before .before in
-    subst (Listed 256 (table s)) (sym (third c)) (listed-wide _ 256 _ _ (s .pre .0 .fewAtoms) (s .pre .1 .negs))
-
-is-nothing-requires-3 : tie.Need-is-nothing-requires-3
-is-nothing-requires-3 c κs = search needs
-
-past-requires-3 : tie.Need-past-requires-3
-past-requires-3 c κs =
-    let b = c .before .before .before in
-    let s = b .before .before .before .before .before .before .before .before in
-    subst (λ (i : ℕ). pastAt (table s) i ≤ length (table s)) (sym (third b)) (s .pre .1 .negs .fits)
-
-part-requires : tie.Need-part-requires
-part-requires c κs =
-    let s = c .before .before .before .before .before .before .before .before .before .before .before .before in
-    subst (λ (i : ℕ). pastAt (table s) i ≤ length (table s)) (sym (fourth c)) (s .pre .1 .aggs .fits)
-
--- the aggregate literals
-literals : (c : tie.After-part)
-    → let s = c .before .before .before .before .before .before .before .before .before .before .before .before .before in
-    c .part .result .now ≡ partAt (table s) (aggsAt (table s) (s .args .at))
-literals c =
-    let s = c .before .before .before .before .before .before .before .before .before .before .before .before .before in
-    c .part .ensures ∙ ap (partAt (table s)) (fourth (c .before))
-
-literals-ask-requires : tie.Need-literals-ask-requires
-literals-ask-requires c κs =
-    let s = c .before .before .before .before .before .before .before .before .before .before .before .before .before in
-    (s .pre .0, subst (Members (s .args .tb .aggregates)) (sym (literals c)) (s .pre .1 .aggs .members))
-
-together-requires : tie.Need-together-requires
-together-requires c κs = search needs
+with-rest-requires : tie.Need-with-rest-requires
+with-rest-requires c κs =
+    let s = c .before .before .before .before .before .before .before .before in (
+      s .pre .0,
+      subst (Listed 256 (table s)) (sym (third c)) (listed-wide _ 256 _ _ (s .pre .0 .fewAtoms) (s .pre .1 .negs)),
+      subst (λ (i : ℕ). Listed (s .args .tb .aggregates) (table s) (pastAt (table s) i)) (sym (third c)) (s .pre .1 .aggs),
+    )
 
 -- ---- the answers
 
@@ -139,18 +95,12 @@ returns-2 c =
 
 returns-3 : tie.Need-returns-3
 returns-3 c =
-    let b = c .before .before in
-    let s = b .before .before .before .before .before .before .before .before .before in
-    sym (stops-neg (cell s) (table s) (s .args .at) (sym (so-neg b) ∙ is-nothing _ (sym (c .before .is-nothing3 .ensures) ∙ c .if3 .taken)))
-
-returns-4 : tie.Need-returns-4
-returns-4 c =
-    let p = c .before .before in
-    let b = p .before .before .before .before in
-    let s = b .before .before .before .before .before .before .before .before .before in
-    c .together .ensures
-    ∙ ap₂ together (so-neg b) (c .before .literals-ask .ensures ∙ ap (λ (l : List ℤ). asks (cell s) (literalLits (table s) l)) (literals p))
-    ∙ sym (demand-all (cell s) (table s) (s .args .at))
+    let b = c .before .before .before .before in
+    let s = b .before .before .before .before .before in
+    let t = table s in
+    c .with-rest .ensures
+    ∙ ap₂ (λ (d : Step) (i : ℕ). together (together d (asks (cell s) (atomLits false (partAt t i)))) (asks (cell s) (literalLits t (partAt t (pastAt t i))))) (so-pos b) (third (c .before))
+    ∙ sym (demand-all (cell s) t (s .args .at))
 
 pub demand-spec : {M : Type 1} → statement M
 demand-spec =
@@ -164,11 +114,5 @@ demand-spec =
     is-nothing-requires-2
     returns-2
     past-requires-2
-    with-list-requires-3
-    is-nothing-requires-3
-    returns-3
-    past-requires-3
-    part-requires
-    literals-ask-requires
-    together-requires
-    returns-4)
+    with-rest-requires
+    returns-3)
