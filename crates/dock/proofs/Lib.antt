@@ -1,3 +1,4 @@
--- The laws that the proofs cite, and that each promise has one answer only.
+-- The laws that the proofs cite, that each promise has one answer only, and that a place loses nothing in 32 bits.
 pub mod Reports
 pub mod Unique
+pub mod Places

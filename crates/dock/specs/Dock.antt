@@ -1,7 +1,7 @@
 -- What the entries of include/saucepebbly.h promise, for every input: what the solver promises of a result, with the result's kind and its two
 -- numbers. Definitions only: to be believed.
 --   firstOf, secondOf      "counts or number and place": choices and skips, of a refusal its number and place
---   narrow                 a place as 32 bits; places are far below 2 to the 32, a larger one would stand as the largest number
+--   narrow                 a place as 32 bits; a larger one would stand as the largest number, but none is (`proofs/Places.antt`)
 --   reported               "a lent pair of numbers": the first two places of the report, if it has two; else nothing is written
 --   Solves, Approves       the contracts
 -- Assumes nothing.

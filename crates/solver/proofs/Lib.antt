@@ -1,4 +1,4 @@
--- What is proved of the public functions. `Unique` is the last word: each promise has one answer only. Assumes nothing.
+-- What is proved of the public functions. `Unique` is the last word: each promise has one answer only; `Places`: the place of a refusal is small. Assumes nothing.
 pub mod Refusals
 pub mod Solved
 pub mod Entry
@@ -8,3 +8,4 @@ pub mod Offered
 pub mod Approved
 pub mod Values
 pub mod Unique
+pub mod Places
