@@ -1,4 +1,4 @@
--- What a rule adds: the atom p exactly where the rule supports p, its positive atoms are marked and p is not.
+-- What a rule could add: the atom p exactly where the rule supports p, once its positive atoms are true.
 -- Assumes nothing.
 use Prim.Native.Nat.{ℕ, zero, suc, _≤_, _<_}
 use native.Mathlib.Omega.{arith}
@@ -10,8 +10,8 @@ use lib.Dec.{eqb}
 use lib.ListN.{length, length-map, getD, List·getD-map}
 use Rattle.meaning.specs.Lists.{Is, _∈_, all, any}
 use Rattle.meaning.specs.Aggregates.{Atoms}
-use Rattle.meaning.specs.Program.{Rule, Literal, In, RuleIn}
-use Rattle.meaning.specs.Answers.{body, _⊆_}
+use Rattle.meaning.specs.Program.{Rule, Literal, RuleIn}
+use Rattle.meaning.specs.Answers.{body}
 use Rattle.meaning.specs.Foundedness.{supports}
 use Rattle.meaning.proofs.Tools.{clash, cases, not-is, is-not, and-i, and-l, and-r, or-l, or-r, or-e, eq, eq-i, all-at, all-i, any-i}
 use Rattle.meaning.proofs.Meaning.{BodyTrue, body-i, body-e, Only, supports-i, supports-body, supports-only}
@@ -30,7 +30,7 @@ use Rattle.rules.specs.declared.Step.{Step}
 use Rattle.rules.specs.Demand.{together, asks, isConflict}
 use Rattle.foundation.specs.declared.Adds.{Adds}
 use Rattle.foundation.specs.declared.Adds.the-variants.{Nothing, Atom}
-use Rattle.foundation.specs.Walk.{fits, addIf, soleBy, soleOf, restTrue, readyOf, addsBy, addsOf}
+use Rattle.foundation.specs.Walk.{fits, addIf, soleBy, soleOf, restTrue, couldBy, couldOf}
 use Rattle.foundation.proofs.Decided.{true-at, Decides, decides-body, askBool, asks-decided, ask-conflict}
 
 -- ---- small facts
@@ -39,7 +39,7 @@ abbrev isAtom : Adds → Bool
 isAtom Nothing = false
 isAtom (Atom p) = true
 
-not-atom : {p : ℕ} → Nothing ≡ Atom p → ⊥
+pub not-atom : {p : ℕ} → Nothing ≡ Atom p → ⊥
 not-atom e = clash {b = true} refl (ap isAtom (sym e))
 
 add-e : (b : Bool) (q p : ℕ) → addIf b q ≡ Atom p → Is b × (q ≡ p)
@@ -129,16 +129,20 @@ module _ (a : ℕ → Cell) (ps : List ℕ) where
       at (One k) f = absurd (some-false p s (scan-one (atomLit false 0) a (map (atomLit false) ps) k f .none-false))
       at More f = absurd (some-false p s (scan-more (atomLit false 0) a (map (atomLit false) ps) f .none-false))
 
--- ---- what a rule adds
+-- ---- what a rule could add
 
--- an atom of its head
-pub adds-head : (a : ℕ → Cell) (G : Atoms) (r : Rule) (p : ℕ) → addsOf a G r ≡ Atom p → p ∈ r .head
-unfolding addsOf
-adds-head a G r p e = at (soleOf a (r .head)) refl e
+-- its only true head atom, where the rest of the body is true
+pub could-e : (a : ℕ → Cell) (r : Rule) (p : ℕ) → couldOf a r ≡ Atom p → Sole a (r .head) p × Is (restTrue a r)
+unfolding couldOf
+could-e a r p e = at (soleOf a (r .head)) refl e
   where
-    at : (d : Adds) → soleOf a (r .head) ≡ d → addsBy a G r d ≡ Atom p → p ∈ r .head
+    at : (d : Adds) → soleOf a (r .head) ≡ d → couldBy a r d ≡ Atom p → Sole a (r .head) p × Is (restTrue a r)
     at Nothing f g = absurd (not-atom g)
-    at (Atom q) f g = sole-e a (r .head) p (f ∙ ap Atom (add-e (not (G q) && readyOf a G r) q p g .1)) .inside
+    at (Atom q) f g = let t = add-e (restTrue a r) q p g in (sole-e a (r .head) p (f ∙ ap Atom (t .1)), t .0)
+
+pub could-i : (a : ℕ → Cell) (r : Rule) (p : ℕ) → Sole a (r .head) p → Is (restTrue a r) → couldOf a r ≡ Atom p
+unfolding couldOf
+could-i a r p s h = ap (couldBy a r) (sole-i a (r .head) p s) ∙ ap (λ (b : Bool). addIf b p) h
 
 together-bool : (b c : Bool) → together (askBool b) (askBool c) ≡ askBool (b && c)
 together-bool true c = refl
@@ -202,36 +206,10 @@ module _ (n : ℕ) (a : ℕ → Cell) (D : AllDefined n a) (r : Rule) (I : RuleI
     unique = λ h m t. o .unique h m (true-at n a h (I .heads h m) ∙ t);
   }
 
-  module _ (G : Atoms) where
-    by-adds : (p : ℕ) (d : Adds) → soleOf a (r .head) ≡ d → addsBy a G r d ≡ Atom p → Sole a (r .head) p × ((G p ≡ false) × Is (readyOf a G r))
-    by-adds p Nothing e f = absurd (not-atom f)
-    by-adds p (Atom q) e f =
-        let t = add-e (not (G q) && readyOf a G r) q p f in
-        (sole-e a (r .head) p (e ∙ ap Atom (t .1)), (ap G (sym (t .1)) ∙ not-is (G q) (and-l _ _ (t .0)), and-r (not (G q)) _ (t .0)))
+  -- where its positive atoms are true, it supports what it could add
+  pub could-supports : (p : ℕ) → couldOf a r ≡ Atom p → ((q : ℕ) → q ∈ r .pos → Is (X q)) → Is (supports X r p)
+  could-supports p e f = let t = could-e a r p e in supports-i X r p (body-true f (t .1)) (only-of p (t .0))
 
-    adds-e : (p : ℕ) → addsOf a G r ≡ Atom p → Sole a (r .head) p × ((G p ≡ false) × Is (readyOf a G r))
-    unfolding addsOf
-    adds-e p e = by-adds p (soleOf a (r .head)) refl e
-
-    -- what it adds, it supports, and its positive atoms are marked
-    pub adds-supported : G ⊆ X → (p : ℕ) → addsOf a G r ≡ Atom p → Is (supports X r p) × Is (all G (r .pos))
-    unfolding readyOf
-    adds-supported s p e =
-        let t = adds-e p e in
-        let g = and-l (all G (r .pos)) _ (t .1 .1) in
-        (supports-i X r p (body-true (λ q m. s q (all-at G (r .pos) g m)) (and-r (all G (r .pos)) _ (t .1 .1))) (only-of p (t .0)), g)
-
-    pub adds-new : (p : ℕ) → addsOf a G r ≡ Atom p → In n p × (G p ≡ false)
-    adds-new p e = let t = adds-e p e in (I .heads p (t .0 .inside), t .1 .0)
-
-    -- where it adds nothing, what it could add is marked
-    pub adds-nothing : addsOf a G r ≡ Nothing → (p : ℕ) → Is (supports X r p) → ((b : ℕ) → b ∈ r .pos → Is (G b)) → Is (G p)
-    unfolding addsOf readyOf
-    adds-nothing e p s f =
-        let d = sole-i a (r .head) p (sole-of p (supports-only X r p s)) in
-        let g = and-i (all-i G (r .pos) f) (rest-of (supports-body X r p s)) in
-        at (G p) refl (sym (ap (addsBy a G r) d ∙ ap (λ (b : Bool). addIf (not (G p) && b) p) g) ∙ e)
-      where
-        at : (b : Bool) → G p ≡ b → addIf (not b && true) p ≡ Nothing → Is (G p)
-        at true h k = h
-        at false h k = absurd (not-atom (sym k))
+  -- what it supports, it could add
+  pub supports-could : (p : ℕ) → Is (supports X r p) → couldOf a r ≡ Atom p
+  supports-could p s = could-i a r p (sole-of p (supports-only X r p s)) (rest-of (supports-body X r p s))

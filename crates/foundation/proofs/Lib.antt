@@ -3,5 +3,6 @@ pub mod Words
 pub mod Decided
 pub mod Adding
 pub mod Reading
-pub mod Walks
 pub mod Rules
+pub mod Candidates
+pub mod Walks

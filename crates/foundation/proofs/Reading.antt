@@ -3,17 +3,14 @@
 use Prim.Native.Nat.{ℕ, _≤_, _<_}
 use native.Mathlib.Omega.{arith}
 use mathlib.Core.Path.{_≡_, refl, sym, ap, _∙_}
-use mathlib.Core.Bool.{Bool, true, false, not, _&&_}
+use mathlib.Core.Bool.{Bool, true, false}
 use mathlib.Core.List.{List}
 use lib.IntN.{ℤ, pos, natAbs}
 use lib.ListN.{length, getD, List·getD-map}
 use Rattle.meaning.specs.Lists.{Is, all}
-use Rattle.meaning.specs.Aggregates.{Atoms}
-use Rattle.meaning.specs.Program.{In}
 use Rattle.interpretation.specs.State.{Cell}
 use Rattle.valuing.specs.Values.{atomLit}
-use Rattle.layout.specs.Layout.{atoms, Members, partAt, posAt, negAt, aggsAt, ruleAt}
-use Rattle.layout.proofs.Inside.{members-in}
+use Rattle.layout.specs.Layout.{atoms, partAt, negAt, aggsAt, ruleAt}
 use Rattle.literals.specs.declared.Scan.{Scan}
 use Rattle.literals.specs.declared.Scan.the-variants.{Refuted, Whole, One, More}
 use Rattle.literals.specs.Scan.{atomLits, literalLits, scanOf}
@@ -22,8 +19,7 @@ use Rattle.literals.proofs.Together.{atoms-length}
 use Rattle.rules.specs.Demand.{together, asks, isConflict}
 use Rattle.foundation.specs.declared.Adds.{Adds}
 use Rattle.foundation.specs.declared.Adds.the-variants.{Nothing, Atom}
-use Rattle.foundation.specs.Walk.{fits, addIf, soleBy, soleOf, restTrue, readyOf, addsBy, addsOf}
-use Rattle.foundation.proofs.Adding.{Sole, sole-e}
+use Rattle.foundation.specs.Walk.{fits, addIf, soleBy, soleOf, restTrue, couldBy, couldOf}
 
 -- ---- the only true atom of a list
 
@@ -55,9 +51,6 @@ module _ (a : ℕ → Cell) (l : List ℤ) where
   unfolding soleOf
   sole-more e = ap (soleBy a (atoms l)) e
 
-  pub sole-range : (n : ℕ) → n ≤ 256 → Members n l → (p : ℕ) → soleOf a (atoms l) ≡ Atom p → (1 ≤ p) × (p ≤ 256)
-  sole-range n h m p e = let i = members-in n l m p (sole-e a (atoms l) p e .inside) in (i .0, omega (arith, i .1))
-
 -- ---- the rule at an index
 
 module _ (a : ℕ → Cell) (t : List ℤ) (at : ℕ) where
@@ -65,15 +58,10 @@ module _ (a : ℕ → Cell) (t : List ℤ) (at : ℕ) where
   unfolding restTrue ruleAt
   rest-at = refl
 
-  module _ (G : Atoms) where
-    pub ready-at : readyOf a G (ruleAt t at) ≡ (all G (atoms (partAt t (posAt t at))) && restTrue a (ruleAt t at))
-    unfolding readyOf ruleAt
-    ready-at = refl
+  pub could-none : soleOf a (atoms (partAt t at)) ≡ Nothing → couldOf a (ruleAt t at) ≡ Nothing
+  unfolding couldOf ruleAt
+  could-none e = ap (couldBy a (ruleAt t at)) e
 
-    pub adds-none : soleOf a (atoms (partAt t at)) ≡ Nothing → addsOf a G (ruleAt t at) ≡ Nothing
-    unfolding addsOf ruleAt
-    adds-none e = ap (addsBy a G (ruleAt t at)) e
-
-    pub adds-atom : (p : ℕ) → soleOf a (atoms (partAt t at)) ≡ Atom p → addsOf a G (ruleAt t at) ≡ addIf (not (G p) && readyOf a G (ruleAt t at)) p
-    unfolding addsOf ruleAt
-    adds-atom p e = ap (addsBy a G (ruleAt t at)) e
+  pub could-atom : (p : ℕ) → soleOf a (atoms (partAt t at)) ≡ Atom p → couldOf a (ruleAt t at) ≡ addIf (restTrue a (ruleAt t at)) p
+  unfolding couldOf ruleAt
+  could-atom p e = ap (couldBy a (ruleAt t at)) e

@@ -16,10 +16,9 @@ use Rattle.layout.specs.Layout.{pastRule, ruleAt, rulesFrom, RuleLies, RulesLie
 use Rattle.layout.proofs.Inside.{rule-in}
 use Rattle.rules.specs.Demand.{demandOf, isConflict}
 use Rattle.foundation.specs.declared.Adds.the-variants.{Atom}
-use Rattle.foundation.specs.Walk.{addsOf, Marks, mark, walk}
+use Rattle.foundation.specs.Walk.{couldOf}
 use Rattle.foundation.proofs.Decided.{holds-decided}
-use Rattle.foundation.proofs.Adding.{adds-head}
-use Rattle.foundation.proofs.Walks.{walk-nil, walk-cons}
+use Rattle.foundation.proofs.Adding.{could-e}
 
 module _ (top most : ℕ) (t : List ℤ) (i : ℕ) where
   abbrev Parts : ℕ → Type 0
@@ -48,14 +47,6 @@ module _ (t : List ℤ) (i : ℕ) where
   pub rules-none : (n : ℕ) → n ≤ 0 → rulesFrom t i n ≡ []
   rules-none n h = let e : n ≡ 0 = omega arith in ap (rulesFrom t i) e ∙ rules-zero
 
-  -- ---- a walk
-
-  pub walk-on : (a : ℕ → Cell) (n : ℕ) → 0 < n → (w : Marks) → walk a (rulesFrom t i n) w ≡ walk a (rulesFrom t (pastRule t i) (n - 1)) (mark (addsOf a (w .atoms) (ruleAt t i)) w)
-  walk-on a n h w = ap (λ (P : Program). walk a P w) (rules-on n h) ∙ walk-cons a (ruleAt t i) (rulesFrom t (pastRule t i) (n - 1)) w
-
-  pub walk-none : (a : ℕ → Cell) (n : ℕ) → n ≤ 0 → (w : Marks) → walk a (rulesFrom t i n) w ≡ w
-  walk-none a n h w = ap (λ (P : Program). walk a P w) (rules-none n h) ∙ walk-nil a w
-
   -- ---- a model
 
   model-cons : (Y : Atoms) (n : ℕ) → 0 < n → model (rulesFrom t i n) Y ≡ (holds Y (ruleAt t i) && model (rulesFrom t (pastRule t i) (n - 1)) Y)
@@ -80,9 +71,9 @@ module _ (t : List ℤ) (i : ℕ) where
         model-cons (trueAtoms (tb .atoms) a) n h
         ∙ ap (λ (b : Bool). b && model (rulesFrom t (pastRule t i) (n - 1)) (trueAtoms (tb .atoms) a)) (rule-holds false e)
 
--- an atom that a rule of the table adds is one of 1 .. 256
-pub adds-range : (t : List ℤ) (tb : Table) → Laid t tb → (i : ℕ) → RuleLies (tb .atoms) (tb .aggregates) t i → (a : ℕ → Cell) (G : Atoms) (p : ℕ) → addsOf a G (ruleAt t i) ≡ Atom p → In 256 p
-adds-range t tb laid i l a G p e =
-    let j = rule-in t tb laid i l .heads p (adds-head a G (ruleAt t i) p e) in
+-- an atom that a rule of the table could add is one of 1 .. 256
+pub could-range : (t : List ℤ) (tb : Table) → Laid t tb → (i : ℕ) → RuleLies (tb .atoms) (tb .aggregates) t i → (a : ℕ → Cell) (p : ℕ) → couldOf a (ruleAt t i) ≡ Atom p → In 256 p
+could-range t tb laid i l a p e =
+    let j = rule-in t tb laid i l .heads p (could-e a (ruleAt t i) p e .0 .inside) in
     let f = laid .fewAtoms in
     (j .0, omega (arith, j .1))

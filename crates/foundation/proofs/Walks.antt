@@ -1,28 +1,34 @@
--- What a walk over the rules makes of the marks: what is marked is added, the marks grow, and a walk that changes nothing has come to an end.
+-- What a walk over the candidates makes of the marks: what is marked is added, the marks grow, a candidate is left or its atom is marked, and a walk
+-- that leaves all candidates has come to an end.
 -- Assumes nothing.
 use Prim.Native.Nat.{ℕ, zero, suc, _≤_, _<_}
 use native.Mathlib.Omega.{arith}
-use mathlib.Core.Path.{_≡_, refl, sym, ap, subst, _∙_}
+use mathlib.Core.Path.{_≡_, refl, sym, ap, ap₂, subst, _∙_}
 use mathlib.Core.Logic.{_⊎_, inl, inr, _≢_, _↔_}
 use mathlib.Core.Bool.{Bool, true, false, not, _||_}
 use mathlib.Core.List.{List, [], _∷_, List·Memᴰ·head, List·Memᴰ·tail, List·Memᴰ·not-nil, List·Memᴰ·cases-cons}
+use lib.IntN.{ℤ}
+use lib.ListN.{length}
 use Rattle.meaning.specs.Cond.{ifEq, ifLt}
 use Rattle.meaning.specs.Lists.{Is, _∈_, all}
 use Rattle.meaning.specs.Aggregates.{Atoms}
 use Rattle.meaning.specs.Program.{Rule, Program, In, AtomsIn}
 use Rattle.meaning.specs.Answers.{_⊆_}
 use Rattle.meaning.specs.Foundedness.{Added, add, Founded, atomsTo, founded}
-use Rattle.meaning.proofs.Tools.{clash, cases, both, not-is, is-not, or-l, or-r, or-e, all-at, all-i, number, number-lt, contra}
+use Rattle.meaning.proofs.Tools.{clash, cases, both, not-is, is-not, or-l, or-r, or-e, all-at, all-i}
 use Rattle.meaning.proofs.Cond.{ifEq-yes, ifEq-no, ifLt-no, eqCase, ltCase}
 use Rattle.meaning.proofs.Meaning.{supports-only}
 use Rattle.meaning.proofs.Closure.{Closed, closed-added}
 use Rattle.meaning.proofs.Tested.{founded-test}
 use Rattle.interpretation.specs.State.{Cell, truthOf, trueAtoms, AllDefined}
-use Rattle.foundation.specs.declared.Adds.{Adds}
-use Rattle.foundation.specs.declared.Adds.the-variants.{Nothing, Atom}
-use Rattle.foundation.specs.Walk.{addsOf, covers, Marks, withAtom, mark, walk}
+use Rattle.layout.specs.declared.Table.{Table}
+use Rattle.layout.specs.Layout.{programOf, Laid}
+use Rattle.layout.proofs.Inside.{atoms-in}
+use Rattle.foundation.specs.declared.Adds.the-variants.{Atom}
+use Rattle.foundation.specs.Walk.{couldOf, candidatesFrom, covers, atomOf, positives, Fit, withAtom, marksBy, leftBy, marksPast, walkMarks, walkLeft}
 use Rattle.foundation.proofs.Decided.{true-at}
-use Rattle.foundation.proofs.Adding.{adds-supported, adds-new, adds-nothing}
+use Rattle.foundation.proofs.Adding.{could-supports, supports-could}
+use Rattle.foundation.proofs.Candidates.{Stems, Named, candidates-e, candidates-i}
 
 with-here : (p : ℕ) (G : Atoms) → Is (withAtom p G p)
 with-here p G = ifEq-yes p p true (G p) refl
@@ -41,46 +47,117 @@ with-e p G q h = at (eqCase q p)
     at (inl e) = inl e
     at (inr e) = inr (sym (ifEq-no q p true (G q) e) ∙ h)
 
--- ---- one rule, and the rules
+-- ---- one candidate
 
-pub walk-nil : (a : ℕ → Cell) (w : Marks) → walk a [] w ≡ w
-unfolding walk
-walk-nil a w = refl
+module _ (c : ℕ) where
+  past-grows : (b d : Bool) (G : Atoms) → G ⊆ marksBy b d c G
+  past-grows true d G q h = h
+  past-grows false true G q h = with-old (atomOf c) G q h
+  past-grows false false G q h = h
 
-pub walk-cons : (a : ℕ → Cell) (r : Rule) (P : Program) (w : Marks) → walk a (r ∷ P) w ≡ walk a P (mark (addsOf a (w .atoms) r) w)
-unfolding walk
-walk-cons a r P w = refl
+  -- its atom is marked already, or it gets marked, or the candidate is left
+  past-or-left : (b d : Bool) (G : Atoms) (l : List ℕ) → G (atomOf c) ≡ b → Is (marksBy b d c G (atomOf c)) ⊎ (c ∈ leftBy b d c l)
+  past-or-left true d G l e = inl e
+  past-or-left false true G l e = inl (with-here (atomOf c) G)
+  past-or-left false false G l e = inr (List·Memᴰ·head refl)
 
-mark-grows : (d : Adds) (w : Marks) → w .atoms ⊆ mark d w .atoms
-mark-grows Nothing w q h = h
-mark-grows (Atom p) w q h = with-old p (w .atoms) q h
+  left-e : (b d : Bool) (l m : List ℕ) (x : ℕ) → (x ∈ l → x ∈ m) → x ∈ leftBy b d c l → x ∈ c ∷ m
+  left-e true d l m x f k = List·Memᴰ·tail (f k)
+  left-e false true l m x f k = List·Memᴰ·tail (f k)
+  left-e false false l m x f k = at (List·Memᴰ·cases-cons k)
+    where
+      at : (x ≡ c) ⊎ (x ∈ l) → x ∈ c ∷ m
+      at (inl e) = List·Memᴰ·head e
+      at (inr j) = List·Memᴰ·tail (f j)
 
-pub walk-grows : (a : ℕ → Cell) (Q : Program) (w : Marks) → w .atoms ⊆ walk a Q w .atoms
-unfolding walk
-walk-grows a [] w q h = h
-walk-grows a (r ∷ Q) w q h = walk-grows a Q (mark (addsOf a (w .atoms) r) w) q (mark-grows (addsOf a (w .atoms) r) w q h)
+  left-tail : (b d : Bool) (l : List ℕ) (x : ℕ) → x ∈ l → x ∈ leftBy b d c l
+  left-tail true d l x k = k
+  left-tail false true l x k = k
+  left-tail false false l x k = List·Memᴰ·tail k
 
--- a walk that changes nothing: no rule adds an atom
-pub record Still (a : ℕ → Cell) (Q : Program) (w : Marks) : Type 0 where
-  pub before : w .changed ≡ false
-  pub same : walk a Q w ≡ w
-  pub none : (r : Rule) → r ∈ Q → addsOf a (w .atoms) r ≡ Nothing
+  left-number : (b d : Bool) (l : List ℕ) (n : ℕ) → length l ≤ n → length (leftBy b d c l) ≤ suc n
+  left-number true d l n h = omega arith
+  left-number false true l n h = omega arith
+  left-number false false l n h = omega arith
 
-pub walk-still : (a : ℕ → Cell) (Q : Program) (w : Marks) → walk a Q w .changed ≡ false → Still a Q w
-unfolding walk
-walk-still a [] w h = record { before = h; same = refl; none = λ r m. absurd (List·Memᴰ·not-nil m) }
-walk-still a (q ∷ Q) w h = at (addsOf a (w .atoms) q) refl (walk-still a Q (mark (addsOf a (w .atoms) q) w) h)
-  where
-    at : (d : Adds) → addsOf a (w .atoms) q ≡ d → Still a Q (mark (addsOf a (w .atoms) q) w) → Still a (q ∷ Q) w
-    at (Atom p) e s = absurd (clash refl (sym (ap (λ (d : Adds). mark d w .changed) e) ∙ s .before))
-    at Nothing e s =
-        let f : mark (addsOf a (w .atoms) q) w ≡ w = ap (λ (d : Adds). mark d w) e in
-        let s′ = subst (Still a Q) f s in
-        record { before = s′ .before; same = s .same ∙ f; none = λ r m. pick r (s′ .none) (List·Memᴰ·cases-cons m) }
-      where
-        pick : (r : Rule) → ((r : Rule) → r ∈ Q → addsOf a (w .atoms) r ≡ Nothing) → (r ≡ q) ⊎ (r ∈ Q) → addsOf a (w .atoms) r ≡ Nothing
-        pick r g (inl i) = ap (addsOf a (w .atoms)) i ∙ e
-        pick r g (inr m) = g r m
+-- ---- the candidates of a list
+
+module _ (t : List ℤ) where
+  -- the walk from a candidate c on, once the two tests at c are made
+  module _ (c : ℕ) (l : List ℕ) (G : Atoms) (b d : Bool) (e : G (atomOf c) ≡ b) (f : all G (positives t c) ≡ d) where
+    past-is : marksPast t c G ≡ marksBy b d c G
+    past-is = ap₂ (λ (x y : Bool). marksBy x y c G) e f
+
+    pub marks-on : walkMarks t (c ∷ l) G ≡ walkMarks t l (marksBy b d c G)
+    unfolding walkMarks
+    marks-on = ap (walkMarks t l) past-is
+
+    pub left-on : walkLeft t (c ∷ l) G ≡ leftBy b d c (walkLeft t l (marksBy b d c G))
+    unfolding walkLeft
+    left-on = ap₂ (λ (x y : Bool). leftBy x y c (walkLeft t l (marksPast t c G))) e f ∙ ap (λ (H : Atoms). leftBy b d c (walkLeft t l H)) past-is
+
+  pub marks-nil : (G : Atoms) → walkMarks t [] G ≡ G
+  unfolding walkMarks
+  marks-nil G = refl
+
+  pub left-nil : (G : Atoms) → walkLeft t [] G ≡ []
+  unfolding walkLeft
+  left-nil G = refl
+
+  pub marks-grow : (l : List ℕ) (G : Atoms) → G ⊆ walkMarks t l G
+  unfolding walkMarks
+  marks-grow [] G q h = h
+  marks-grow (c ∷ l) G q h = marks-grow l (marksPast t c G) q (past-grows c (G (atomOf c)) (all G (positives t c)) G q h)
+
+  -- what is left was there
+  pub left-from : (l : List ℕ) (G : Atoms) (x : ℕ) → x ∈ walkLeft t l G → x ∈ l
+  unfolding walkLeft
+  left-from [] G x k = k
+  left-from (c ∷ l) G x k =
+      left-e c (G (atomOf c)) (all G (positives t c)) (walkLeft t l (marksPast t c G)) l x (left-from l (marksPast t c G) x) k
+
+  -- what is not left has its atom marked
+  pub left-or-marked : (l : List ℕ) (G : Atoms) (x : ℕ) → x ∈ l → Is (walkMarks t l G (atomOf x)) ⊎ (x ∈ walkLeft t l G)
+  unfolding walkMarks walkLeft
+  left-or-marked [] G x k = absurd (List·Memᴰ·not-nil k)
+  left-or-marked (c ∷ l) G x k = at (List·Memᴰ·cases-cons k) (left-or-marked l (marksPast t c G) x)
+    where
+      first : (L : List ℕ) → x ≡ c → Is (marksPast t c G (atomOf c)) ⊎ (c ∈ L) → Is (walkMarks t l (marksPast t c G) (atomOf x)) ⊎ (x ∈ L)
+      first L e (inl h) = inl (marks-grow l (marksPast t c G) (atomOf x) (ap (λ (y : ℕ). marksPast t c G (atomOf y)) e ∙ h))
+      first L e (inr h) = inr (subst (λ (y : ℕ). y ∈ L) (sym e) h)
+
+      next : (L : List ℕ) → Is (walkMarks t l (marksPast t c G) (atomOf x)) ⊎ (x ∈ L) → Is (walkMarks t l (marksPast t c G) (atomOf x)) ⊎ (x ∈ leftBy (G (atomOf c)) (all G (positives t c)) c L)
+      next L (inl h) = inl h
+      next L (inr h) = inr (left-tail c (G (atomOf c)) (all G (positives t c)) L x h)
+
+      at : (x ≡ c) ⊎ (x ∈ l) → (x ∈ l → Is (walkMarks t l (marksPast t c G) (atomOf x)) ⊎ (x ∈ walkLeft t l (marksPast t c G)))
+          → Is (walkMarks t l (marksPast t c G) (atomOf x)) ⊎ (x ∈ leftBy (G (atomOf c)) (all G (positives t c)) c (walkLeft t l (marksPast t c G)))
+      at (inl e) f = first _ e (past-or-left c (G (atomOf c)) (all G (positives t c)) G (walkLeft t l (marksPast t c G)) refl)
+      at (inr j) f = next _ (f j)
+
+  pub left-fewer : (l : List ℕ) (G : Atoms) → length (walkLeft t l G) ≤ length l
+  unfolding walkLeft
+  left-fewer [] G = omega arith
+  left-fewer (c ∷ l) G = left-number c (G (atomOf c)) (all G (positives t c)) (walkLeft t l (marksPast t c G)) (length l) (left-fewer l (marksPast t c G))
+
+  -- where all are left, nothing is marked, and none could be
+  abbrev Ended : List ℕ → Atoms → Atoms → Type 0
+  Ended l G H = (H ≡ G) × ((x : ℕ) → x ∈ l → all G (positives t x) ≡ false)
+
+  pub all-left : (l : List ℕ) (G : Atoms) → length (walkLeft t l G) ≡ length l → Ended l G (walkMarks t l G)
+  unfolding walkMarks walkLeft
+  all-left [] G e = (refl, λ x k. absurd (List·Memᴰ·not-nil k))
+  all-left (c ∷ l) G e = at (G (atomOf c)) (all G (positives t c)) refl (all-left l G) e
+    where
+      at : (b d : Bool) → all G (positives t c) ≡ d → (length (walkLeft t l G) ≡ length l → Ended l G (walkMarks t l G))
+          → length (leftBy b d c (walkLeft t l (marksBy b d c G))) ≡ suc (length l) → Ended (c ∷ l) G (walkMarks t l (marksBy b d c G))
+      at true d f g h = absurd (omega (arith, left-fewer l G, h))
+      at false true f g h = absurd (omega (arith, left-fewer l (withAtom (atomOf c) G), h))
+      at false false f g h = let r = g (omega (arith, h)) in (r .0, λ x k. pick x (r .1) (List·Memᴰ·cases-cons k))
+        where
+          pick : (x : ℕ) → ((x : ℕ) → x ∈ l → all G (positives t x) ≡ false) → (x ≡ c) ⊎ (x ∈ l) → all G (positives t x) ≡ false
+          pick x g (inl i) = ap (λ (y : ℕ). all G (positives t y)) i ∙ f
+          pick x g (inr j) = g x j
 
 -- ---- over a program
 
@@ -98,70 +175,68 @@ module _ (n : ℕ) (a : ℕ → Cell) (D : AllDefined n a) (P : Program) (A : At
       at : Added P X p → Is (X p)
       at (add r m k b) = supports-only X r p k .isTrue
 
-  mark-sound : (r : Rule) → r ∈ P → (w : Marks) → Sound (w .atoms) → (d : Adds) → addsOf a (w .atoms) r ≡ d → Sound (mark d w .atoms)
-  mark-sound r m w s Nothing e q h = s q h
-  mark-sound r m w s (Atom p) e q h = at (with-e p (w .atoms) q h)
-    where
-      here : Added P X p
-      here =
-          let t = adds-supported n a D r (A r m) (w .atoms) (sound-true (w .atoms) s) p e in
-          add r m (t .0) (λ b k. s b (all-at (w .atoms) (r .pos) (t .1) k))
+  module _ (t : List ℤ) where
+    -- a candidate whose positive atoms are marked adds its atom
+    candidate-adds : (c : ℕ) → Stems a t P c → (G : Atoms) → Sound G → Is (all G (positives t c)) → Added P X (atomOf c)
+    candidate-adds c k G s h =
+        let r = k .rule in
+        let g : Is (all G (r .pos)) = ap (all G) (sym (k .same)) ∙ h in
+        add r (k .inside) (could-supports n a D r (A r (k .inside)) (atomOf c) (k .could) (λ q m. sound-true G s q (all-at G (r .pos) g m)))
+        (λ q m. s q (all-at G (r .pos) g m))
 
-      at : (q ≡ p) ⊎ Is (w .atoms q) → Added P X q
-      at (inl i) = subst (Added P X) (sym i) here
-      at (inr k) = s q k
+    past-sound : (c : ℕ) → Stems a t P c → (G : Atoms) → Sound G → (b d : Bool) → all G (positives t c) ≡ d → Sound (marksBy b d c G)
+    past-sound c k G s true d e q h = s q h
+    past-sound c k G s false true e q h = at (with-e (atomOf c) G q h)
+      where
+        at : (q ≡ atomOf c) ⊎ Is (G q) → Added P X q
+        at (inl i) = subst (Added P X) (sym i) (candidate-adds c k G s e)
+        at (inr j) = s q j
+    past-sound c k G s false false e q h = s q h
 
-  walk-sound-from : (Q : Program) → ((r : Rule) → r ∈ Q → r ∈ P) → (w : Marks) → Sound (w .atoms) → Sound (walk a Q w .atoms)
-  unfolding walk
-  walk-sound-from [] f w s = s
-  walk-sound-from (r ∷ Q) f w s =
-      walk-sound-from Q (λ q m. f q (List·Memᴰ·tail m)) (mark (addsOf a (w .atoms) r) w)
-      (mark-sound r (f r (List·Memᴰ·head refl)) w s (addsOf a (w .atoms) r) refl)
+    pub walk-sound : (l : List ℕ) → ((c : ℕ) → c ∈ l → Stems a t P c) → (G : Atoms) → Sound G → Sound (walkMarks t l G)
+    unfolding walkMarks
+    walk-sound [] f G s = s
+    walk-sound (c ∷ l) f G s =
+        walk-sound l (λ x m. f x (List·Memᴰ·tail m)) (marksPast t c G)
+        (past-sound c (f c (List·Memᴰ·head refl)) G s (G (atomOf c)) (all G (positives t c)) refl)
 
-  pub walk-sound : (w : Marks) → Sound (w .atoms) → Sound (walk a P w .atoms)
-  walk-sound w s = walk-sound-from P (λ r m. m) w s
+    -- between two walks: marked atoms G, candidates l. A rule that could add an atom not yet marked is among them
+    pub record Between (G : Atoms) (l : List ℕ) : Type 0 where
+      pub sound : Sound G
+      pub told : (c : ℕ) → c ∈ l → Stems a t P c
+      pub whole : (r : Rule) → r ∈ P → (p : ℕ) → couldOf a r ≡ Atom p → Is (G p) ⊎ Named t l r p
 
-  -- a walk that changes something marks one atom more
-  abbrev More : Atoms → Atoms → Type 0
-  More G H = (p : ℕ) × In n p × (G p ≡ false) × Is (H p)
+    pub between-fits : (G : Atoms) (l : List ℕ) → Between G l → Fit t l
+    between-fits G l b c m = b .told c m .lies
 
-  walk-more-from : (Q : Program) → ((r : Rule) → r ∈ Q → r ∈ P) → (w : Marks) → w .changed ≡ false → Is (walk a Q w .changed) → More (w .atoms) (walk a Q w .atoms)
-  unfolding walk
-  walk-more-from [] f w c h = absurd (clash h c)
-  walk-more-from (r ∷ Q) f w c h =
-      at (addsOf a (w .atoms) r) refl (λ c′. walk-more-from Q (λ q m. f q (List·Memᴰ·tail m)) (mark (addsOf a (w .atoms) r) w) c′ h)
-    where
-      at : (d : Adds) → addsOf a (w .atoms) r ≡ d
-          → (mark (addsOf a (w .atoms) r) w .changed ≡ false → More (mark (addsOf a (w .atoms) r) w .atoms) (walk a Q (mark (addsOf a (w .atoms) r) w) .atoms))
-          → More (w .atoms) (walk a Q (mark (addsOf a (w .atoms) r) w) .atoms)
-      at Nothing e g =
-          let f : mark (addsOf a (w .atoms) r) w ≡ w = ap (λ (d : Adds). mark d w) e in
-          let t = g (ap (λ (u : Marks). u .changed) f ∙ c) in
-          (t .0, t .1, ap (λ (u : Marks). u .atoms (t .0)) (sym f) ∙ t .2, t .3)
-      at (Atom p) e g =
-          let t = adds-new n a D r (A r (f r (List·Memᴰ·head refl))) (w .atoms) p e in
-          (p, t .0, t .1, walk-grows a Q (mark (addsOf a (w .atoms) r) w) p (ap (λ (d : Adds). mark d w .atoms p) e ∙ with-here p (w .atoms)))
+    pub between-on : (G : Atoms) (l : List ℕ) → Between G l → Between (walkMarks t l G) (walkLeft t l G)
+    between-on G l b = record {
+      sound = walk-sound l (b .told) G (b .sound);
+      told = λ c m. b .told c (left-from t l G c m);
+      whole = λ r m p e. at r p (b .whole r m p e);
+    }
+      where
+        kept : (r : Rule) (p : ℕ) (k : Named t l r p) → Is (walkMarks t l G (atomOf (k .code))) ⊎ (k .code ∈ walkLeft t l G) → Is (walkMarks t l G p) ⊎ Named t (walkLeft t l G) r p
+        kept r p k (inl h) = inl (ap (walkMarks t l G) (sym (k .atom)) ∙ h)
+        kept r p k (inr h) = inr (record { code = k .code; inside = h; atom = k .atom; same = k .same })
 
-  -- how many atoms of 0 .. 256 are not marked
-  abbrev pub unmarked : Atoms → ℕ
-  unmarked G = number 257 (λ p. not (G p))
+        at : (r : Rule) (p : ℕ) → Is (G p) ⊎ Named t l r p → Is (walkMarks t l G p) ⊎ Named t (walkLeft t l G) r p
+        at r p (inl h) = inl (marks-grow t l G p h)
+        at r p (inr k) = kept r p k (left-or-marked t l G (k .code) (k .inside))
 
-  pub walk-fewer : n ≤ 256 → (w : Marks) → w .changed ≡ false → Is (walk a P w .changed) → unmarked (walk a P w .atoms) < unmarked (w .atoms)
-  walk-fewer l w c h =
-      let t = walk-more-from P (λ r m. m) w c h in
-      let i = t .1 .1 in
-      number-lt 257 (λ p. not (walk a P w .atoms p)) (λ p. not (w .atoms p))
-      (λ q k x. is-not (w .atoms q) (contra (w .atoms q) (walk-grows a P w q) (not-is (walk a P w .atoms q) x)))
-      (t .0) (omega arith) (ap not (t .3)) (is-not (w .atoms (t .0)) (t .2))
-
-  -- the end: what is marked is what is added
-  pub walk-closed : (w : Marks) → walk a P w .changed ≡ false → Closed P X (w .atoms)
-  walk-closed w c r m p s f = adds-nothing n a D r (A r m) (w .atoms) (walk-still a P w c .none r m) p s f
-
-  pub ended : (w : Marks) → Sound (w .atoms) → walk a P w .changed ≡ false → (p : ℕ) → Is (walk a P w .atoms p) ↔ Added P X p
-  ended w s c p =
-      let e = ap (λ (u : Marks). u .atoms p) (walk-still a P w c .same) in
-      (λ h. s p (sym e ∙ h), λ d. e ∙ closed-added P X (w .atoms) (walk-closed w c) d)
+    -- the end: what is marked is what is added
+    pub between-end : (G : Atoms) (l : List ℕ) → Between G l → length (walkLeft t l G) ≡ length l → (p : ℕ) → Is (walkMarks t l G p) ↔ Added P X p
+    between-end G l b e p =
+        let s = all-left t l G e in
+        let same : walkMarks t l G p ≡ G p = ap (λ (H : Atoms). H p) (s .0) in
+        (λ h. b .sound p (sym same ∙ h), λ d. same ∙ closed-added P X G (closed (s .1)) d)
+      where
+        closed : ((x : ℕ) → x ∈ l → all G (positives t x) ≡ false) → Closed P X G
+        closed none r m p s f = at (b .whole r m p (supports-could n a D r (A r m) p s))
+          where
+            at : Is (G p) ⊎ Named t l r p → Is (G p)
+            at (inl h) = h
+            at (inr k) = absurd (clash (ap (all G) (k .same) ∙ all-i G (r .pos) f) (none (k .code) (k .inside)))
 
   -- ---- the test
 
@@ -206,3 +281,17 @@ module _ (n : ℕ) (a : ℕ → Cell) (D : AllDefined n a) (P : Program) (A : At
       up : Founded P X → (p : ℕ) → p ∈ atomsTo n → Is (truthOf (a p)) ⊎ (truthOf (a p) ≡ false) → Is (not (truthOf (a p)) || G p)
       up F p m (inl t) = or-r (not (truthOf (a p))) _ ((g p) .1 (F p (true-at n a p (atoms-e n p m) ∙ t)))
       up F p m (inr t) = or-l _ _ (is-not (truthOf (a p)) t)
+
+-- ---- before the first walk, and from then on
+
+pub between-start : (t : List ℤ) (tb : Table) (laid : Laid t tb) (a : ℕ → Cell) (D : AllDefined (tb .atoms) a) (G : Atoms) → ((p : ℕ) → G p ≡ false)
+    → Between (tb .atoms) a D (programOf t tb) (atoms-in t tb laid) t G (candidatesFrom a t (tb .first) (tb .rules))
+between-start t tb laid a D G none = record {
+  sound = λ p h. absurd (clash h (none p));
+  told = candidates-e a t tb laid (tb .first) (tb .rules) (laid .rulesLie);
+  whole = λ r m p e. inr (candidates-i a t tb laid (tb .first) (tb .rules) (laid .rulesLie) r m p e);
+}
+
+-- whatever program l and G are between two walks of, m and H are too
+abbrev pub Kept : (ℕ → Cell) → List ℤ → Atoms → List ℕ → Atoms → List ℕ → Type 0
+Kept a t G l H m = (n : ℕ) (D : AllDefined n a) (P : Program) (A : AtomsIn n P) → Between n a D P A t G l → Between n a D P A t H m

@@ -2,19 +2,25 @@
 -- true head atom and all positive body atoms added"). Definitions only; they need not be believed: the contract of `founded` speaks of `meaning`'s
 -- test, and `proofs/` ties the two.
 --   marked ms        the atoms that the marks stand for: atom p's at index p - 1, any byte but 0 marks it
---   soleOf a ps      the only true atom of a head;  readyOf: all positive atoms are marked and the rest of the body is true
---   addsOf a G r     the atom that rule r adds to the marked atoms G
---   walk a P w       what a walk over the rules P makes of the marks
+--   soleOf a ps      the only true atom of a head;  restTrue: negated atoms and aggregate literals are true
+--   couldOf a r      the atom that rule r adds once its positive atoms are marked
+--   codeOf j p       a candidate, a rule that could add atom p, as one word; the list of its positive atoms begins at j
+--   candidatesFrom   the candidates among n rules
+--   walkMarks, walkLeft   a walk over the candidates l: what it makes of the marked atoms G, and which candidates it leaves
+--   Stands l b n     l stands at the n first places of the array b
+--   Fit t l          a list of atoms stands in the table where each candidate of l says
 --   MarksAdded       the marks hold the atoms that get added
 -- Assumes nothing.
-use Prim.Native.Nat.{ℕ, zero, suc}
+use Prim.Native.Nat.{ℕ, zero, suc, _+_, _-_, _*_, _/_, _%_, _≤_}
+use mathlib.Core.Path.{_≡_}
 use mathlib.Core.Logic.{_↔_}
-use mathlib.Core.Bool.{Bool, true, false, cond, not, _&&_, _||_}
+use mathlib.Core.Bool.{Bool, true, false, not, _||_}
 use mathlib.Core.List.{List, [], _∷_, map}
 use lib.Dec.{eqb}
-use lib.ListN.{getD}
+use lib.IntN.{ℤ}
+use lib.ListN.{length, getD, take}
 use Rattle.meaning.specs.Cond.{ifEq}
-use Rattle.meaning.specs.Lists.{Is, all}
+use Rattle.meaning.specs.Lists.{Is, _∈_, all}
 use Rattle.meaning.specs.Aggregates.{Atoms}
 use Rattle.meaning.specs.Program.{Rule, Program}
 use Rattle.meaning.specs.Foundedness.{Added}
@@ -24,7 +30,7 @@ use Rattle.literals.specs.declared.Scan.{Scan}
 use Rattle.literals.specs.declared.Scan.the-variants.{Refuted, Whole, One, More}
 use Rattle.literals.specs.Scan.{scanOf}
 use Rattle.rules.specs.Demand.{together, asks, isConflict}
-use Rattle.foundation.specs.declared.Walked.{Walked}
+use Rattle.layout.specs.Layout.{atoms, partAt, posAt, pastRule, ruleAt, Listed}
 use Rattle.foundation.specs.declared.Adds.{Adds}
 use Rattle.foundation.specs.declared.Adds.the-variants.{Nothing, Atom}
 
@@ -54,44 +60,74 @@ soleOf a ps = soleBy a ps (scanOf a (map (atomLit false) ps))
 unfoldable pub restTrue : (ℕ → Cell) → Rule → Bool
 restTrue a r = isConflict (together (asks a (map (atomLit false) (r .neg))) (asks a (map aggLit (r .aggs))))
 
-unfoldable pub readyOf : (ℕ → Cell) → Atoms → Rule → Bool
-readyOf a G r = all G (r .pos) && restTrue a r
+abbrev pub couldBy : (ℕ → Cell) → Rule → Adds → Adds
+couldBy a r Nothing = Nothing
+couldBy a r (Atom p) = addIf (restTrue a r) p
 
-abbrev pub addsBy : (ℕ → Cell) → Atoms → Rule → Adds → Adds
-addsBy a G r Nothing = Nothing
-addsBy a G r (Atom p) = addIf (not (G p) && readyOf a G r) p
-
-unfoldable pub addsOf : (ℕ → Cell) → Atoms → Rule → Adds
-addsOf a G r = addsBy a G r (soleOf a (r .head))
+unfoldable pub couldOf : (ℕ → Cell) → Rule → Adds
+couldOf a r = couldBy a r (soleOf a (r .head))
 
 -- p is false, or it is marked
 abbrev pub covers : (ℕ → Cell) → Atoms → ℕ → Bool
 covers a G p = not (truthOf (a p)) || G p
 
--- ---- a walk
+-- ---- candidates
 
-pub record Marks : Type 0 where
-  pub atoms : Atoms
-  pub changed : Bool
+unfoldable pub codeOf : ℕ → ℕ → ℕ
+codeOf j p = j * 256 + (p - 1)
+
+abbrev pub atomOf : ℕ → ℕ
+atomOf c = c % 256 + 1
+
+abbrev pub placeOf : ℕ → ℕ
+placeOf c = c / 256
+
+abbrev pub positives : List ℤ → ℕ → List ℕ
+positives t c = atoms (partAt t (placeOf c))
+
+abbrev pub withCandidate : Adds → ℕ → List ℕ → List ℕ
+withCandidate Nothing j l = l
+withCandidate (Atom p) j l = codeOf j p ∷ l
+
+unfoldable pub candidatesFrom : (ℕ → Cell) → List ℤ → ℕ → ℕ → List ℕ
+candidatesFrom a t i zero = []
+candidatesFrom a t i (suc n) = withCandidate (couldOf a (ruleAt t i)) (posAt t i) (candidatesFrom a t (pastRule t i) n)
+
+pub record Stands (l : List ℕ) (b : List ℕ) (n : ℕ) : Type 0 where
+  pub number : n ≡ length l
+  pub sized : length b ≡ 1024
+  pub few : n ≤ 1024
+  pub same : take n b ≡ l
+
+abbrev pub Fit : List ℤ → List ℕ → Type 0
+Fit t l = (c : ℕ) → c ∈ l → Listed 256 t (placeOf c)
+
+-- ---- a walk
 
 abbrev pub withAtom : ℕ → Atoms → Atoms
 withAtom p G = λ q. ifEq q p true (G q)
 
-abbrev pub mark : Adds → Marks → Marks
-mark Nothing w = w
-mark (Atom p) w = record { atoms = withAtom p (w .atoms); changed = true }
+-- the two tests: whether c's atom is marked, and whether its positive atoms are
+abbrev pub marksBy : Bool → Bool → ℕ → Atoms → Atoms
+marksBy true b c G = G
+marksBy false true c G = withAtom (atomOf c) G
+marksBy false false c G = G
 
-unfoldable pub walk : (ℕ → Cell) → Program → Marks → Marks
-walk a [] w = w
-walk a (r ∷ P) w = walk a P (mark (addsOf a (w .atoms) r) w)
+abbrev pub leftBy : Bool → Bool → ℕ → List ℕ → List ℕ
+leftBy true b c l = l
+leftBy false true c l = l
+leftBy false false c l = c ∷ l
 
--- the marks before a walk
-abbrev pub fresh : Atoms → Marks
-fresh G = record { atoms = G; changed = false }
+abbrev pub marksPast : List ℤ → ℕ → Atoms → Atoms
+marksPast t c G = marksBy (G (atomOf c)) (all G (positives t c)) c G
 
--- the marks that the code's struct stands for
-abbrev pub marksOf : Walked → Marks
-marksOf w = record { atoms = marked (w .marks); changed = w .changed }
+unfoldable pub walkMarks : List ℤ → List ℕ → Atoms → Atoms
+walkMarks t [] G = G
+walkMarks t (c ∷ l) G = walkMarks t l (marksPast t c G)
+
+unfoldable pub walkLeft : List ℤ → List ℕ → Atoms → List ℕ
+walkLeft t [] G = []
+walkLeft t (c ∷ l) G = leftBy (G (atomOf c)) (all G (positives t c)) c (walkLeft t l (marksPast t c G))
 
 -- what is marked is what gets added
 abbrev pub MarksAdded : List ℕ → Program → Atoms → Type 0

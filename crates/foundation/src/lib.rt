@@ -1,17 +1,20 @@
 // The foundedness test and the test for a model, on the table's words under values that define every atom (01, "Reasons and jumps": "starting from
 // none, repeatedly add p if some rule has body true, p its only true head atom and all positive body atoms added. All true atoms added: answer").
-// Added atoms are marked in an array of bytes, atom p at index p - 1. Meaning: crate `meaning`; how the rules are walked: `specs/Walk.antt`. Nothing here
-// writes.
+// Added atoms are marked in an array of bytes, atom p at index p - 1. The values do not change during the test, so the rules that can add an atom at all, the
+// candidates, are found once. A candidate is one word: the index at which the list of its positive atoms begins, times 256, plus the index of its
+// atom's mark. Meaning: crate `meaning`; how the candidates are walked: `specs/Walk.antt`. Memory: a word of 32 bits for each rule (1,024 at most), a byte
+// for each atom (256 at most).
 ghost use mathlib.Core.Path.{_≡_};
 ghost use mathlib.Core.Bool.{Bool, not, _||_};
 ghost use Prim.Native.Nat.{_≤_};
+ghost use lib.ListN.{length, take};
 ghost use Rattle.meaning.specs.Lists.{all};
 ghost use Rattle.meaning.specs.Answers.{model};
 ghost use Rattle.meaning.specs.Foundedness.{atomsTo, founded};
 ghost use Rattle.interpretation.specs.State.{truthOf, trueAtoms, AllDefined};
 ghost use Rattle.interpretation.specs.View.{valued};
-ghost use Rattle.layout.specs.Layout.{Laid, Members, RuleLies, atoms, ruleAt, programOf};
-ghost use Rattle.foundation.specs.Walk.{marked, fits, soleOf, restTrue, readyOf, addsOf, covers, fresh, walk, marksOf, MarksAdded};
+ghost use Rattle.layout.specs.Layout.{Laid, Members, Listed, RuleLies, atoms, ruleAt, programOf};
+ghost use Rattle.foundation.specs.Walk.{marked, fits, soleOf, restTrue, couldOf, placeOf, positives, candidatesFrom, Stands, Fit, walkMarks, walkLeft, covers, MarksAdded};
 use interpretation::Value;
 use layout::Table;
 use literals::Scan;
@@ -23,10 +26,10 @@ pub enum Adds {
     Atom(usize),
 }
 
-// The marks after a walk over the rules, and whether it has marked an atom.
+// The marks after a walk, and how many candidates it has left.
 pub struct Walked {
     pub marks: [u8; 256],
-    pub changed: bool,
+    pub left: usize,
 }
 
 pub fn is_true(values: &[u8; 256], p: usize) -> bool
@@ -123,33 +126,17 @@ pub fn rest_true(t: &[i32], tb: Table, at: usize, values: &[u8; 256]) -> bool
     rules::is_conflict(rest)
 }
 
-// All positive atoms of the rule at `at` are marked, and the rest of its body is true.
-pub fn is_ready(t: &[i32], tb: Table, at: usize, values: &[u8; 256], marks: &[u8; 256]) -> bool
+// The atom that the rule at `at` adds once its positive atoms are marked.
+pub fn could_add(t: &[i32], tb: Table, at: usize, values: &[u8; 256]) -> Adds
     requires { ⌜ Laid (now t) tb × RuleLies (tb .atoms) (tb .aggregates) (now t) at ⌝ }
-    ensures { λ r. ⌜ r ≡ readyOf (valued (now (values .entry))) (marked (now (marks .entry))) (ruleAt (now (t .entry)) at) ⌝ }
-{
-    let i = layout::past(t, at);
-    let positive = layout::part(t, i);
-    if !all_marked(positive, marks) {
-        return false;
-    }
-    rest_true(t, tb, at, values)
-}
-
-// The atom that the rule at `at` adds to the marked ones.
-pub fn added_by(t: &[i32], tb: Table, at: usize, values: &[u8; 256], marks: &[u8; 256]) -> Adds
-    requires { ⌜ Laid (now t) tb × RuleLies (tb .atoms) (tb .aggregates) (now t) at ⌝ }
-    ensures { λ r. ⌜ r ≡ addsOf (valued (now (values .entry))) (marked (now (marks .entry))) (ruleAt (now (t .entry)) at) ⌝ }
+    ensures { λ r. ⌜ r ≡ couldOf (valued (now (values .entry))) (ruleAt (now (t .entry)) at) ⌝ }
 {
     let head = layout::part(t, at);
     let s = sole(head, values);
     match s {
         Adds::Nothing => Adds::Nothing,
         Adds::Atom(p) => {
-            if is_marked(marks, p) {
-                return Adds::Nothing;
-            }
-            if is_ready(t, tb, at, values, marks) {
+            if rest_true(t, tb, at, values) {
                 return Adds::Atom(p);
             }
             Adds::Nothing
@@ -157,43 +144,84 @@ pub fn added_by(t: &[i32], tb: Table, at: usize, values: &[u8; 256], marks: &[u8
     }
 }
 
-// One walk over the rules from the first to the last: each atom that a rule adds is marked at once.
-pub fn walk(t: &[i32], tb: Table, values: &[u8; 256], mut marks: [u8; 256]) -> Walked
-    requires { ⌜ Laid (now t) tb ⌝ }
-    ensures { λ r. ⌜ marksOf r ≡ walk (valued (now (values .entry))) (programOf (now (t .entry)) tb) (fresh (marked marks)) ⌝ }
+// The candidates of a table, in rule order, written from index 0 on. The result is their number.
+pub fn collect(t: &[i32], tb: Table, values: &[u8; 256], list: &mut [u32]) -> usize
+    requires { ⌜ Laid (now t) tb × (length (now list) ≡ 1024) ⌝ }
+    ensures { λ r. ⌜ Stands (candidatesFrom (valued (now (values .entry))) (now (t .entry)) (tb .first) (tb .rules)) (now (list .exit)) r ⌝ }
 {
-    let mut changed = false;
+    let mut number: usize = 0;
     let mut at = tb.first;
     let mut left = tb.rules;
     while 0 < left {
-        let found = added_by(t, tb, at, values, &marks);
+        let found = could_add(t, tb, at, values);
+        let positive = layout::past(t, at);
+        at = layout::past_rule(t, at);
+        left -= 1;
         match found {
             Adds::Nothing => {}
             Adds::Atom(p) => {
-                let i = p - 1;
-                marks[i] = 1;
-                changed = true;
+                let place = positive * 256;
+                let index = p - 1;
+                let word = place + index;
+                list[number] = word as u32;
+                number += 1;
             }
         }
-        at = layout::past_rule(t, at);
-        left -= 1;
     }
-    Walked { marks, changed }
+    number
 }
 
-// The atoms that get added: walks repeat until one marks nothing.
+// All positive atoms of a candidate are marked.
+pub fn is_ready(t: &[i32], c: u32, marks: &[u8; 256]) -> bool
+    requires { ⌜ Listed 256 (now t) (placeOf c) ⌝ }
+    ensures { λ r. ⌜ r ≡ all (marked (now (marks .entry))) (positives (now (t .entry)) c) ⌝ }
+{
+    let place = (c / 256) as usize;
+    let positive = layout::part(t, place);
+    all_marked(positive, marks)
+}
+
+// One walk over the first `number` candidates: each atom that one adds is marked at once. Those whose atom is not marked when the walk has passed
+// them are left, and written from index 0 on; the others have nothing more to add.
+pub fn walk(t: &[i32], number: usize, list: &mut [u32], mut marks: [u8; 256]) -> Walked
+    requires { ⌜ Fit (now t) (take number (now list)) × (number ≤ 1024) × (length (now list) ≡ 1024) ⌝ }
+    ensures { λ r. ⌜ (marked (r .marks) ≡ walkMarks (now (t .entry)) (take number (now (list .entry))) (marked marks))
+        × Stands (walkLeft (now (t .entry)) (take number (now (list .entry))) (marked marks)) (now (list .exit)) (r .left) ⌝ }
+{
+    let mut left: usize = 0;
+    let mut k: usize = 0;
+    while k < number {
+        let c = list[k];
+        k += 1;
+        let i = (c % 256) as usize;
+        if marks[i] == 0 {
+            if is_ready(t, c, &marks) {
+                marks[i] = 1;
+            } else {
+                list[left] = c;
+                left += 1;
+            }
+        }
+    }
+    Walked { marks, left }
+}
+
+// The atoms that get added: walks repeat until one leaves all candidates.
 pub fn added(t: &[i32], tb: Table, values: &[u8; 256]) -> [u8; 256]
     requires { ⌜ Laid (now t) tb × AllDefined (tb .atoms) (valued (now values)) ⌝ }
     ensures { λ r. ⌜ MarksAdded r (programOf (now (t .entry)) tb) (trueAtoms (tb .atoms) (valued (now (values .entry)))) ⌝ }
 {
+    let mut list = [0u32; 1024];
+    let mut number = collect(t, tb, values, &mut list);
     let mut marks = [0u8; 256];
     loop {
-        let w = walk(t, tb, values, marks);
+        let w = walk(t, number, &mut list, marks);
         let next = w.marks;
         marks = next;
-        if !w.changed {
+        if w.left == number {
             return marks;
         }
+        number = w.left;
     }
 }
 
