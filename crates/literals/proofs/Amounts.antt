@@ -25,8 +25,7 @@ use Rattle.interpretation.specs.declared.Value.the-variants.{True, False, Undef
 use Rattle.valuing.specs.Values.{lowestOf, highestOf, possibly, asksEach, between, decide, valueBy, aggregateValue}
 use Rattle.valuing.proofs.Compared.{of-each}
 use Rattle.literals.specs.declared.aggregates.Totals.{Totals}
-use Rattle.literals.specs.declared.aggregates.Marks.{Marks}
-use Rattle.literals.specs.Elements.{limitOf, passesBy, weightOf, sumOf, addedBy, totalsOf, totalsValue, markedBy, marksOf, marksValue}
+use Rattle.literals.specs.Elements.{Marks, limitOf, passesBy, weightOf, sumOf, addedBy, totalsOf, totalsValue, markedBy, marksOf, marksValue}
 use Rattle.literals.proofs.Pairs.{pairAt, pairs-down}
 
 -- ---- one element more

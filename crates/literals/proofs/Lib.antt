@@ -5,3 +5,4 @@ pub mod Together
 mod Walks
 mod Pairs
 mod Amounts
+mod Bytes

@@ -23,7 +23,6 @@ use Rattle.valuing.specs.Values.{lowestOf, highestOf, between, decide}
 use Rattle.literals.specs.Scan.{oneMore}
 use Rattle.literals.specs.declared.Scan.{Scan}
 use Rattle.literals.specs.declared.aggregates.Totals.{Totals}
-use Rattle.literals.specs.declared.aggregates.Marks.{Marks}
 
 -- what was found before, with the literal at i, which is not false
 abbrev pub countedBy : Value → ℕ → Scan → Scan
@@ -52,6 +51,11 @@ abbrev pub sumOf : Bool → List ℕ → ℕ
 sumOf true vs = length vs
 sumOf false vs = total vs
 
+-- x or nothing
+abbrev pub partOf : Bool → ℕ → ℕ
+partOf true x = x
+partOf false x = 0
+
 abbrev pub addedBy : Value → ℕ → Totals → Totals
 addedBy True x t = record { low = t .low + x; high = t .high + x }
 addedBy False x t = t
@@ -64,6 +68,13 @@ abbrev pub totalsValue : Comparison → ℕ → Totals → Value
 totalsValue c k t = between (passesBy c k (t .low)) (passesBy c k (t .high))
 
 -- ---- min and max
+
+-- whether the value of some true element passes the comparison, and of some it fails; the same of the elements that could be true
+pub record Marks : Type 0 where
+  pub passed : Bool
+  pub failed : Bool
+  pub passable : Bool
+  pub failable : Bool
 
 abbrev pub markedBy : Value → Bool → Marks → Marks
 markedBy True ok m = record { passed = ok || m .passed; failed = not ok || m .failed; passable = ok || m .passable; failable = not ok || m .failable }

@@ -1,14 +1,15 @@
 // The value of an aggregate, from its pairs of value and atom in one walk. Meaning: crate `valuing`'s `aggregateValue`; how the walk finds it:
 // `specs/Elements.antt`.
 ghost use mathlib.Core.Path.{_≡_};
+ghost use mathlib.Core.Bool.{true, false};
 ghost use Prim.Native.Nat.{_≤_, _<_};
 ghost use lib.IntN.{natAbs, pos};
 ghost use lib.Signed.{nonNeg};
 ghost use lib.ListN.{length, getD};
-ghost use Rattle.interpretation.specs.View.{valued};
+ghost use Rattle.interpretation.specs.View.{cellBy, valued, cellValue};
 ghost use Rattle.layout.specs.Layout.{AggregateLies, aggregateAt, pairs};
-ghost use Rattle.valuing.specs.Values.{between, decide, asksEach, aggregateValue};
-ghost use Rattle.literals.specs.Elements.{limitOf, passesBy, weightOf, addedBy, totalsOf, totalsValue, markedBy, marksOf, marksValue, Paired};
+ghost use Rattle.valuing.specs.Values.{between, decide, aggregateValue};
+ghost use Rattle.literals.specs.Elements.{limitOf, passesBy, weightOf, partOf, addedBy, totalsOf, totalsValue, marksOf, marksValue, Paired};
 use interpretation::Value;
 use meaning::Comparison;
 use meaning::Function;
@@ -17,14 +18,6 @@ use meaning::Function;
 pub struct Totals {
     pub low: usize,
     pub high: usize,
-}
-
-// Whether the value of some true element passes the comparison, and of some it fails; the same of the elements that could be true.
-pub struct Marks {
-    pub passed: bool,
-    pub failed: bool,
-    pub passable: bool,
-    pub failable: bool,
 }
 
 // Whether the word at index k is no negation.
@@ -96,22 +89,30 @@ pub fn weight(count: bool, v: usize) -> usize
     if count { 1 } else { v }
 }
 
-// An element of weight x more.
-pub fn added(v: Value, x: usize, t: Totals) -> Totals
-    requires { ⌜ (x ≤ 65535) × (t .low ≤ 4294967295) × (t .high ≤ 4294967295) ⌝ }
-    ensures { λ r. ⌜ r ≡ addedBy v x t ⌝ }
+// The byte of the value of the atom at index i: 0 undefined, 1 true, any other false.
+pub fn byte_at(w: &[i32], i: usize, values: &[u8; 256]) -> u8
+    requires { ⌜ (i < length (now w)) × (1 ≤ natAbs (getD (now w) i (pos 0))) × (natAbs (getD (now w) i (pos 0)) ≤ 256) ⌝ }
+    ensures { λ r. ⌜ cellBy r 0 ≡ valued (now (values .entry)) (natAbs (getD (now (w .entry)) i (pos 0))) ⌝ }
 {
-    match v {
-        Value::True => Totals {
-            low: t.low + x,
-            high: t.high + x,
-        },
-        Value::False => t,
-        Value::Undefined => Totals {
-            low: t.low,
-            high: t.high + x,
-        },
-    }
+    let place = words::atom(w, i) - 1;
+    values[place]
+}
+
+// x or nothing.
+pub fn part(on: bool, x: usize) -> usize
+    ensures { λ r. ⌜ r ≡ partOf on x ⌝ }
+{
+    if on { x } else { 0 }
+}
+
+// An element of weight x more, by the byte of its atom's value. Both sums are made without a branch: which atoms are true changes all the time.
+pub fn added(b: u8, x: usize, t: Totals) -> Totals
+    requires { ⌜ (x ≤ 65535) × (t .low ≤ 4294967295) × (t .high ≤ 4294967295) ⌝ }
+    ensures { λ r. ⌜ r ≡ addedBy (cellValue (cellBy b 0)) x t ⌝ }
+{
+    let low = t.low + part(b == 1, x);
+    let high = t.high + part(b < 2, x);
+    Totals { low, high }
 }
 
 // Count or sum over the pairs of value and atom, from the last to the first.
@@ -126,8 +127,7 @@ pub fn totals_of(w: &[i32], count: bool, values: &[u8; 256]) -> Totals
         let i = 2 * left;
         let x = weight(count, words::atom(w, i));
         let place = i + 1;
-        let p = words::atom(w, place);
-        t = added(interpretation::value_of(values, p), x, t);
+        t = added(byte_at(w, place, values), x, t);
     }
     t
 }
@@ -141,79 +141,55 @@ pub fn totals_value(w: &[i32], count: bool, c: Comparison, k: usize, values: &[u
     between(passes(c, k, t.low), passes(c, k, t.high))
 }
 
-// Whether one element more passes: what is known of the others with it.
-pub fn marked(v: Value, ok: bool, m: Marks) -> Marks
-    ensures { λ r. ⌜ r ≡ markedBy v ok m ⌝ }
-{
-    match v {
-        Value::True => Marks {
-            passed: ok | m.passed,
-            failed: !ok | m.failed,
-            passable: ok | m.passable,
-            failable: !ok | m.failable,
-        },
-        Value::False => m,
-        Value::Undefined => Marks {
-            passed: m.passed,
-            failed: m.failed,
-            passable: ok | m.passable,
-            failable: !ok | m.failable,
-        },
-    }
-}
-
-// Which values over the pairs pass, from the last pair to the first.
-pub fn marks_of(w: &[i32], c: Comparison, k: usize, values: &[u8; 256]) -> Marks
+// The value of "some value passes", from the last pair to the first: true as soon as a true element's value passes. The value is looked at
+// before the atom, because it is the same at each call.
+pub fn some_value(w: &[i32], c: Comparison, k: usize, values: &[u8; 256]) -> Value
     requires { ⌜ Paired (now w) ⌝ }
-    ensures { λ r. ⌜ r ≡ marksOf c k (valued (now (values .entry))) (pairs (now (w .entry))) ⌝ }
+    ensures { λ r. ⌜ r ≡ marksValue false (marksOf c k (valued (now (values .entry))) (pairs (now (w .entry)))) ⌝ }
 {
-    let mut m = Marks {
-        passed: false,
-        failed: false,
-        passable: false,
-        failable: false,
-    };
+    let mut passable = false;
     let mut left = w.len() / 2;
     while 0 < left {
         left -= 1;
         let i = 2 * left;
-        let ok = passes(c, k, words::atom(w, i));
-        let place = i + 1;
-        let p = words::atom(w, place);
-        m = marked(interpretation::value_of(values, p), ok, m);
+        if passes(c, k, words::atom(w, i)) {
+            let place = i + 1;
+            let b = byte_at(w, place, values);
+            if b == 1 {
+                return Value::True;
+            }
+            passable = (b < 2) | passable;
+        }
     }
-    m
+    between(false, passable)
 }
 
-// The value of a comparison with a min or a max.
-pub fn marks_value(w: &[i32], each: bool, c: Comparison, k: usize, values: &[u8; 256]) -> Value
+// The value of "each value passes, and there is one", from the last pair to the first: false as soon as a true element's value fails.
+pub fn each_value(w: &[i32], c: Comparison, k: usize, values: &[u8; 256]) -> Value
     requires { ⌜ Paired (now w) ⌝ }
-    ensures { λ r. ⌜ r ≡ marksValue each (marksOf c k (valued (now (values .entry))) (pairs (now (w .entry)))) ⌝ }
+    ensures { λ r. ⌜ r ≡ marksValue true (marksOf c k (valued (now (values .entry))) (pairs (now (w .entry)))) ⌝ }
 {
-    let m = marks_of(w, c, k, values);
-    if each {
-        let holds = (m.passed & !m.failed) & (m.passable & !m.failable);
-        return decide(holds, m.failed | !m.passable);
+    let mut passed = false;
+    let mut passable = false;
+    let mut failable = false;
+    let mut left = w.len() / 2;
+    while 0 < left {
+        left -= 1;
+        let i = 2 * left;
+        let place = i + 1;
+        let b = byte_at(w, place, values);
+        if passes(c, k, words::atom(w, i)) {
+            passed = (b == 1) | passed;
+            passable = (b < 2) | passable;
+        } else {
+            if b == 1 {
+                return Value::False;
+            }
+            failable = (b < 2) | failable;
+        }
     }
-    between(m.passed, m.passable)
-}
-
-// Whether each value is asked to pass.
-pub fn asks_each(f: Function, c: Comparison) -> bool
-    ensures { λ r. ⌜ r ≡ asksEach f c ⌝ }
-{
-    match f {
-        Function::Count => false,
-        Function::Sum => false,
-        Function::Min => match c {
-            Comparison::Less => false,
-            Comparison::Greater => true,
-        },
-        Function::Max => match c {
-            Comparison::Less => true,
-            Comparison::Greater => false,
-        },
-    }
+    let holds = passed & (passable & !failable);
+    decide(holds, !passable)
 }
 
 // The value of the aggregate that begins at `at`.
@@ -229,7 +205,13 @@ pub fn aggregate_value(t: &[i32], at: usize, values: &[u8; 256]) -> Value
     match f {
         Function::Count => totals_value(w, true, c, k, values),
         Function::Sum => totals_value(w, false, c, k, values),
-        Function::Min => marks_value(w, asks_each(f, c), c, k, values),
-        Function::Max => marks_value(w, asks_each(f, c), c, k, values),
+        Function::Min => match c {
+            Comparison::Less => some_value(w, c, k, values),
+            Comparison::Greater => each_value(w, c, k, values),
+        },
+        Function::Max => match c {
+            Comparison::Less => each_value(w, c, k, values),
+            Comparison::Greater => some_value(w, c, k, values),
+        },
     }
 }

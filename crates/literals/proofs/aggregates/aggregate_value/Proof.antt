@@ -10,6 +10,7 @@ use Rattle.interpretation.specs.View.{valued}
 use mathlib.Core.List.{List}
 use mathlib.Core.Path.{subst}
 use Rattle.meaning.specs.declared.Function.{Function}
+use Rattle.meaning.specs.declared.Function.the-variants.{Min, Max}
 use Rattle.meaning.specs.declared.Comparison.{Comparison}
 use Rattle.interpretation.specs.declared.Value.{Value}
 use Rattle.layout.specs.Layout.{natAt, functionBy, comparisonBy, pairs, pairsAt, aggregateAt}
@@ -24,9 +25,9 @@ use Rattle.literals.proofs.aggregates.aggregate_value.Lts as lts
 use Rattle.layout.proofs.comparison.Reads as comparison-reads
 use Rattle.layout.proofs.function.Reads as function-reads
 use Rattle.layout.proofs.pairs.Reads as pairs-reads
-use Rattle.literals.proofs.aggregates.asks_each.Reads as asks-each-reads
+use Rattle.literals.proofs.aggregates.each_value.Reads as each-value-reads
 use Rattle.literals.proofs.aggregates.limit.Reads as limit-reads
-use Rattle.literals.proofs.aggregates.marks_value.Reads as marks-value-reads
+use Rattle.literals.proofs.aggregates.some_value.Reads as some-value-reads
 use Rattle.literals.proofs.aggregates.totals_value.Reads as totals-value-reads
 
 pairs-requires : tie.Need-pairs-requires
@@ -89,20 +90,32 @@ totals-value-requires-2 c κs = ranged (c .before .before .before .before .befor
 enum-told-3 : tie.Need-enum-told-3
 enum-told-3 c = search needs
 
-asks-each-requires : tie.Need-asks-each-requires
-asks-each-requires c κs = search needs
-
-marks-value-requires : tie.Need-marks-value-requires
-marks-value-requires c κs = ranged (c .before .before .before .before .before .before)
-
 enum-told-4 : tie.Need-enum-told-4
 enum-told-4 c = search needs
 
-asks-each-requires-2 : tie.Need-asks-each-requires-2
-asks-each-requires-2 c κs = search needs
+some-value-requires : tie.Need-some-value-requires
+some-value-requires c κs = ranged (c .before .before .before .before .before .before .before)
 
-marks-value-requires-2 : tie.Need-marks-value-requires-2
-marks-value-requires-2 c κs = ranged (c .before .before .before .before .before .before)
+enum-told-5 : tie.Need-enum-told-5
+enum-told-5 c = search needs
+
+each-value-requires : tie.Need-each-value-requires
+each-value-requires c κs = ranged (c .before .before .before .before .before .before .before)
+
+enum-told-6 : tie.Need-enum-told-6
+enum-told-6 c = search needs
+
+enum-told-7 : tie.Need-enum-told-7
+enum-told-7 c = search needs
+
+each-value-requires-2 : tie.Need-each-value-requires-2
+each-value-requires-2 c κs = ranged (c .before .before .before .before .before .before .before)
+
+enum-told-8 : tie.Need-enum-told-8
+enum-told-8 c = search needs
+
+some-value-requires-2 : tie.Need-some-value-requires-2
+some-value-requires-2 c κs = ranged (c .before .before .before .before .before .before .before)
 
 returns : tie.Need-returns
 returns c = c .totals-value .ensures ∙ answer (c .before .before .before) (c .before .enum-told .given .1)
@@ -112,15 +125,23 @@ returns-2 c = c .totals-value2 .ensures ∙ answer (c .before .before .before) (
 
 returns-3 : tie.Need-returns-3
 returns-3 c =
-    let k = c .before .before .before .before in
-    let e = c .before .before .enum-told3 .given .1 in
-    c .marks-value .ensures ∙ each k (c .before .asks-each .result) (c .before .asks-each .ensures ∙ ap (λ (f : Function). asksEach f (k .before .before .comparison .result)) e) ∙ answer k e
+    let k = c .before .before .before .before .before in
+    c .some-value .ensures ∙ each k _ (sym (ap (asksEach Min) (c .before .enum-told4 .given .1))) ∙ answer k (c .before .before .before .enum-told3 .given .1)
 
 returns-4 : tie.Need-returns-4
 returns-4 c =
-    let k = c .before .before .before .before in
-    let e = c .before .before .enum-told4 .given .1 in
-    c .marks-value2 .ensures ∙ each k (c .before .asks-each2 .result) (c .before .asks-each2 .ensures ∙ ap (λ (f : Function). asksEach f (k .before .before .comparison .result)) e) ∙ answer k e
+    let k = c .before .before .before .before .before in
+    c .each-value .ensures ∙ each k _ (sym (ap (asksEach Min) (c .before .enum-told5 .given .1))) ∙ answer k (c .before .before .before .enum-told3 .given .1)
+
+returns-5 : tie.Need-returns-5
+returns-5 c =
+    let k = c .before .before .before .before .before in
+    c .each-value2 .ensures ∙ each k _ (sym (ap (asksEach Max) (c .before .enum-told7 .given .1))) ∙ answer k (c .before .before .before .enum-told6 .given .1)
+
+returns-6 : tie.Need-returns-6
+returns-6 c =
+    let k = c .before .before .before .before .before in
+    c .some-value2 .ensures ∙ each k _ (sym (ap (asksEach Max) (c .before .enum-told8 .given .1))) ∙ answer k (c .before .before .before .enum-told6 .given .1)
 
 pub aggregate-value-spec : {M : Type 1} → statement M
 aggregate-value-spec =
@@ -136,12 +157,18 @@ aggregate-value-spec =
     enum-told-2
     totals-value-requires-2
     enum-told-3
-    asks-each-requires
-    marks-value-requires
     enum-told-4
-    asks-each-requires-2
-    marks-value-requires-2
+    some-value-requires
+    enum-told-5
+    each-value-requires
+    enum-told-6
+    enum-told-7
+    each-value-requires-2
+    enum-told-8
+    some-value-requires-2
     returns
     returns-2
     returns-3
-    returns-4)
+    returns-4
+    returns-5
+    returns-6)

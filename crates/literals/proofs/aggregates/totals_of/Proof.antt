@@ -6,7 +6,7 @@ use Prim.Native.Nat.{ℕ, _+_, _-_, _*_, _/_, _≤_, _<_}
 use native.Mathlib.Omega.{arith}
 use lib.IntN.{ℤ, pos, natAbs}
 use lib.ListN.{length, getD, drop}
-use Rattle.interpretation.specs.View.{valued, cellValue}
+use Rattle.interpretation.specs.View.{cellBy, valued, cellValue}
 use Rattle.layout.specs.Layout.{pairs}
 use mathlib.Core.List.{List}
 use Rattle.meaning.specs.Program.{Element}
@@ -18,8 +18,8 @@ use Rattle.literals.proofs.aggregates.totals_of.Statement.{statement}
 use Rattle.literals.proofs.aggregates.totals_of.Tie as tie
 use Rattle.literals.proofs.aggregates.totals_of.Reads as reads
 use Rattle.literals.proofs.aggregates.totals_of.Lts as lts
-use Rattle.interpretation.proofs.value_of.Reads as value-of-reads
 use Rattle.literals.proofs.aggregates.added.Reads as added-reads
+use Rattle.literals.proofs.aggregates.byte_at.Reads as byte-at-reads
 use Rattle.literals.proofs.aggregates.weight.Reads as weight-reads
 use Rattle.words.proofs.atom.Reads as atom-reads
 
@@ -51,11 +51,11 @@ weight-requires c κs = search needs
 add-place : tie.Need-add-place Inv-loop μ-loop
 add-place c = let h = c .before .before .before .before .pre .short in omega arith
 
-atom-requires-2 : tie.Need-atom-requires-2 Inv-loop μ-loop
-atom-requires-2 c κs = omega arith
-
-value-of-requires : tie.Need-value-of-requires Inv-loop μ-loop
-value-of-requires c κs = rw (c .atom2 .ensures) (c .before .before .before .before .before .pre .atoms (c .before .before .before .before .loop .left - 1) (omega arith))
+byte-at-requires : tie.Need-byte-at-requires Inv-loop μ-loop
+byte-at-requires c κs =
+    let b = c .before .before .before in
+    let h = b .before .pre .atoms (b .loop .left - 1) (omega arith) in
+    (omega arith, h .0, h .1)
 
 -- what the element adds is at most 65,535
 light : (c : tie.After-weight Inv-loop μ-loop) → c .weight .result ≤ 65535
@@ -64,19 +64,19 @@ light c =
     rw (c .weight .ensures) (weight-most (b .before .args .count) (c .before .atom .result) (rw (c .before .atom .ensures) (b .before .pre .values (b .loop .left - 1) (omega arith))))
 
 added-requires : tie.Need-added-requires Inv-loop μ-loop
-added-requires c κs = let h = c .before .before .before .before .before .before .pre .short in (light (c .before .before), omega arith, omega arith)
+added-requires c κs = let h = c .before .before .before .before .before .pre .short in (light (c .before), omega arith, omega arith)
 
 loop-less : tie.Need-loop-less Inv-loop μ-loop
 loop-less c = omega arith
 
 loop-again : tie.Need-loop-again Inv-loop μ-loop
 loop-again c =
-    let b = c .before .before .before .before .before .before in
+    let b = c .before .before .before .before .before in
     let a = b .before .args in
-    let v = c .before .value-of .result in
-    let x = c .before .before .before .weight .result in
+    let v = cellValue (cellBy (c .before .byte-at .result) 0) in
+    let x = c .before .before .weight .result in
     let s = b .loop .t in
-    let most = light (c .before .before .before) in
+    let most = light (c .before .before) in
     let low = ap (λ (u : Totals). u .low) (c .added .ensures) in
     let high = ap (λ (u : Totals). u .high) (c .added .ensures) in
     let lows = low-most v x s in
@@ -85,9 +85,8 @@ loop-again c =
       omega arith,
       omega arith,
       c .added .ensures
-          ∙ totals-down (a .w .now) (b .loop .left) (valued (a .values .now)) (c .before .before .before .before .before .loop-test .taken) (omega arith) (a .count) v x s
-          (c .before .value-of .ensures ∙ ap (λ (p : ℕ). cellValue (valued (a .values .now) p)) (c .before .before .atom2 .ensures))
-          (c .before .before .before .weight .ensures ∙ ap (weightOf (a .count)) (c .before .before .before .before .atom .ensures)) (b .loop .inv .3),
+          ∙ totals-down (a .w .now) (b .loop .left) (valued (a .values .now)) (c .before .before .before .before .loop-test .taken) (omega arith) (a .count) v x s
+          (ap cellValue (c .before .byte-at .ensures)) (c .before .before .weight .ensures ∙ ap (weightOf (a .count)) (c .before .before .before .atom .ensures)) (b .loop .inv .3),
     )
 
 returns : tie.Need-returns Inv-loop μ-loop
@@ -107,8 +106,7 @@ totals-of-spec =
     atom-requires
     weight-requires
     add-place
-    atom-requires-2
-    value-of-requires
+    byte-at-requires
     added-requires
     loop-less
     loop-again
