@@ -2,6 +2,7 @@
 pub mod Laws
 pub mod Walks
 pub mod Lists
-pub mod Standing
 pub mod Room
-pub mod Filling
+pub mod Counting
+pub mod Putting
+pub mod Placing

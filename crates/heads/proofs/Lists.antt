@@ -1,12 +1,14 @@
--- An array with a header and lists behind it: what a write leaves as it is, and a list that grows at its end.
+-- Parts of an array: one that grows at its end, its words, and words that are 0.
 --   part a i n   the n words from index i on
 -- Assumes nothing.
 use mathlib.Core.Path.{_≡_, sym, ap, _∙_}
 use mathlib.Core.List.{List, [], _∷_, _++_}
-use Prim.Native.Nat.{ℕ, zero, suc, _+_, _≤_, _<_}
+use mathlib.Core.Logic.{_⊎_, inl, inr, _≢_}
+use Prim.Native.Nat.{ℕ, suc, _+_, _<_}
 use native.Mathlib.Omega.{arith}
 use lib.ListN.{length, getD, take, drop, set, length-drop}
-use lib.Seq.{take-nil, take-take, append-snoc, drop-set-add, take-suc-set, getD-take, getD-drop}
+use lib.Seq.{append-snoc, drop-set-add, take-suc-set, getD-take, getD-drop, getD-set-same, getD-set-other}
+use Rattle.meaning.proofs.Cond.{eqCase}
 
 abbrev pub part : List ℕ → ℕ → ℕ → List ℕ
 part a i n = take n (drop i a)
@@ -23,26 +25,17 @@ grown a i n x h =
 pub moved : (a : List ℕ) (i n x : ℕ) (l w : List ℕ) → i + n < length a → part a i n ++ x ∷ l ≡ w → part (set a (i + n) x) i (n + 1) ++ l ≡ w
 moved a i n x l w h e = ap (λ (m : List ℕ). m ++ l) (grown a i n x h) ∙ append-snoc (part a i n) x l ∙ e
 
--- ---- what stays where two arrays are the same below j
+-- ---- words of a part
 
-part-take : (a : List ℕ) (i n : ℕ) → part a i n ≡ drop i (take (i + n) a)
-part-take a zero n =
-    let e : n ≡ 0 + n = omega arith in
-    ap (λ (m : ℕ). take m a) e
-part-take [] (suc i) n = take-nil n ∙ ap (drop (suc i)) (sym (take-nil {A = ℕ} (suc i + n)))
-part-take (x ∷ a) (suc i) n =
-    let e : suc (i + n) ≡ suc i + n = omega arith in
-    part-take a i n ∙ ap (λ (m : ℕ). drop (suc i) (take m (x ∷ a))) e
+pub part-word : (a : List ℕ) (i n k : ℕ) (w : List ℕ) → part a i n ≡ w → k < n → getD a (i + k) 0 ≡ getD w k 0
+part-word a i n k w e h = sym (getD-drop i a k 0) ∙ sym (getD-take n (drop i a) k 0 h) ∙ ap (λ (m : List ℕ). getD m k 0) e
 
-module _ (a b : List ℕ) (j : ℕ) (same : take j a ≡ take j b) where
-  pub kept-part : (i n : ℕ) → i + n ≤ j → part a i n ≡ part b i n
-  kept-part i n h =
-      let cut : (l : List ℕ) → part l i n ≡ drop i (take (i + n) (take j l)) = λ l. part-take l i n ∙ ap (drop i) (sym (take-take (i + n) j l h)) in
-      cut a ∙ ap (λ (l : List ℕ). drop i (take (i + n) l)) same ∙ sym (cut b)
+-- ---- words that are 0
 
-  pub kept-at : (k : ℕ) → k < j → getD a k 0 ≡ getD b k 0
-  kept-at k h = sym (getD-take j a k 0 h) ∙ ap (λ (l : List ℕ). getD l k 0) same ∙ getD-take j b k 0 h
-
-  -- a word of the part w that stands before j
-  pub kept-word : (i n k : ℕ) (w : List ℕ) → part b i n ≡ w → i + n ≤ j → k < n → getD a (i + k) 0 ≡ getD w k 0
-  kept-word i n k w e h l = kept-at (i + k) (omega arith) ∙ sym (getD-drop i b k 0) ∙ sym (getD-take n (drop i b) k 0 l) ∙ ap (λ (m : List ℕ). getD m k 0) e
+-- one more of them
+pub zero-on : (a : List ℕ) (i : ℕ) → i < length a → ((k : ℕ) → k < i → getD a k 0 ≡ 0) → (k : ℕ) → k < i + 1 → getD (set a i 0) k 0 ≡ 0
+zero-on a i h f k l = at (eqCase k i)
+  where
+    at : (k ≡ i) ⊎ (k ≢ i) → getD (set a i 0) k 0 ≡ 0
+    at (inl e) = ap (λ (j : ℕ). getD (set a i 0) j 0) e ∙ getD-set-same a i 0 0 h
+    at (inr n) = getD-set-other a i k 0 0 n ∙ f k (omega (arith, n, l))

@@ -60,11 +60,27 @@ module _ (t : List ℤ) where
   unfolding total
   total-zero l = refl
 
-  pub total-on : (l : List ℕ) (n : ℕ) → total t l (n + 1) ≡ length (withHead t (n + 1) l) + total t l n
+  pub total-suc : (l : List ℕ) (n : ℕ) → total t l (suc n) ≡ length (withHead t (suc n) l) + total t l n
   unfolding total
+  total-suc l n = refl
+
+  pub total-on : (l : List ℕ) (n : ℕ) → total t l (n + 1) ≡ length (withHead t (n + 1) l) + total t l n
   total-on l n =
       let e : suc n ≡ n + 1 = omega arith in
-      ap (total t l) (sym e) ∙ ap (λ (m : ℕ). length (withHead t m l) + total t l n) e
+      ap (total t l) (sym e) ∙ total-suc l n ∙ ap (λ (m : ℕ). length (withHead t m l) + total t l n) e
+
+  total-add : (l : List ℕ) (n k : ℕ) → total t l n ≤ total t l (n + k)
+  total-add l n zero =
+      let e : n + 0 ≡ n = omega arith in
+      omega (arith, ap (total t l) e)
+  total-add l n (suc k) =
+      let e : n + suc k ≡ n + k + 1 = omega arith in
+      omega (arith, ap (total t l) e, total-on l (n + k), total-add l n k)
+
+  pub total-rise : (l : List ℕ) (m n : ℕ) → m ≤ n → total t l m ≤ total t l n
+  total-rise l m n h =
+      let e : m + (n - m) ≡ n = omega arith in
+      omega (arith, ap (total t l) e, total-add l m (n - m))
 
   total-nil : (n : ℕ) → total t [] n ≡ 0
   unfolding total withHead

@@ -5,12 +5,18 @@
 --   listAt a k         list k of the array a
 --   Holds a k l        list k lies in the array, and it is l
 --   Listed t tb a      list 0 has all rules of the table, list p those with p in the head
---   Gathered l i a b e   what one list adds: in b the list l stands from index i of a on and ends before e; all before it is as in a
+--   Counted l a b      b is a after a rule with the head l is counted: one more at 2p + 1 for each p of l
+--   Counts t tb l a    all rules stand in list 0's place, and at 2p + 1 the number of the rules at l that have p in the head
+--   endOf a s p        where list p ends, by the counts of a, list 0 ending at s
+--   Ended s n a b      b is a with the ends of lists 0 .. n in the place of their counts; all but list 0 are empty
+--   Regions a          the lists lie one after the other, the first from index 514 on
+--   Room l a           there is a free word before the list of each p of l
+--   Put l i a b        b is a after rule i is put at the front of the list of each p of l
 -- Assumes nothing.
 use mathlib.Core.Path.{_≡_}
-use mathlib.Core.Bool.{cond}
+use mathlib.Core.Bool.{true, cond}
 use mathlib.Core.List.{List, [], _∷_}
-use Prim.Native.Nat.{ℕ, zero, suc, _+_, _-_, _≤_, _<_}
+use Prim.Native.Nat.{ℕ, zero, suc, _+_, _-_, _*_, _≤_, _<_}
 use lib.IntN.{ℤ}
 use lib.ListN.{length, getD, take, drop}
 use Rattle.meaning.specs.Lists.{has}
@@ -33,21 +39,56 @@ abbrev pub AllLie : Table → List ℤ → List ℕ → Type 0
 AllLie tb t l = (k : ℕ) → k < length l → RuleLies (tb .atoms) (tb .aggregates) t (getD l k 0)
 
 abbrev pub listAt : List ℕ → ℕ → List ℕ
-listAt a k = take (getD a (k + 1) 0 - getD a k 0) (drop (getD a k 0) a)
+listAt a k = take (getD a (2 * k + 1) 0 - getD a (2 * k) 0) (drop (getD a (2 * k) 0) a)
 
 pub record Holds (a : List ℕ) (k : ℕ) (l : List ℕ) : Type 0 where
-  pub within : k + 1 < length a
-  pub ordered : getD a k 0 ≤ getD a (k + 1) 0
-  pub fits : getD a (k + 1) 0 ≤ length a
+  pub within : 2 * k + 1 < length a
+  pub ordered : getD a (2 * k) 0 ≤ getD a (2 * k + 1) 0
+  pub fits : getD a (2 * k + 1) 0 ≤ length a
   pub same : listAt a k ≡ l
 
 pub record Listed (t : List ℤ) (tb : Table) (a : List ℕ) : Type 0 where
-  pub long : length a ≡ 17666
+  pub long : length a ≡ 17922
   pub all : Holds a 0 (placesOf t tb)
   pub each : (p : ℕ) → 1 ≤ p → p ≤ tb .atoms → Holds a p (withHead t p (placesOf t tb))
 
-pub record Gathered (l : List ℕ) (i : ℕ) (a b : List ℕ) (e : ℕ) : Type 0 where
-  pub ends : e ≡ i + length l
-  pub sized : length b ≡ length a
-  pub before : take i b ≡ take i a
-  pub stands : take (length l) (drop i b) ≡ l
+-- ---- counting
+
+pub record Counted (l : List ℕ) (a b : List ℕ) : Type 0 where
+  pub sized : length b ≡ 17922
+  pub behind : drop 514 b ≡ drop 514 a
+  pub counts : (p : ℕ) → p ≤ 256 → getD b (2 * p + 1) 0 ≡ cond (has p l) (getD a (2 * p + 1) 0 + 1) (getD a (2 * p + 1) 0)
+
+pub record Counts (t : List ℤ) (tb : Table) (l : List ℕ) (a : List ℕ) : Type 0 where
+  pub sized : length a ≡ 17922
+  pub places : take (tb .rules) (drop 514 a) ≡ placesOf t tb
+  pub counts : (p : ℕ) → p ≤ 256 → getD a (2 * p + 1) 0 ≡ length (withHead t p l)
+
+unfoldable pub endOf : List ℕ → ℕ → ℕ → ℕ
+endOf a s zero = s
+endOf a s (suc p) = endOf a s p + getD a (2 * suc p + 1) 0
+
+pub record Ended (s n : ℕ) (a b : List ℕ) : Type 0 where
+  pub sized : length b ≡ 17922
+  pub behind : drop 514 b ≡ drop 514 a
+  pub first : getD b 0 0 ≡ 514
+  pub begins : (p : ℕ) → 1 ≤ p → p ≤ n → getD b (2 * p) 0 ≡ endOf a s p
+  pub ends : (p : ℕ) → p ≤ n → getD b (2 * p + 1) 0 ≡ endOf a s p
+
+-- ---- putting
+
+pub record Regions (a : List ℕ) : Type 0 where
+  pub sized : length a ≡ 17922
+  pub first : getD a 0 0 ≡ 514
+  pub ordered : (p : ℕ) → p ≤ 256 → getD a (2 * p) 0 ≤ getD a (2 * p + 1) 0
+  pub apart : (p q : ℕ) → p < q → q ≤ 256 → getD a (2 * p + 1) 0 ≤ getD a (2 * q) 0
+  pub fits : (p : ℕ) → p ≤ 256 → getD a (2 * p + 1) 0 ≤ 17922
+
+abbrev pub Room : List ℕ → List ℕ → Type 0
+Room l a = (p q : ℕ) → p ≤ 256 → has p l ≡ true → q < p → getD a (2 * q + 1) 0 < getD a (2 * p) 0
+
+pub record Put (l : List ℕ) (i : ℕ) (a b : List ℕ) : Type 0 where
+  pub regions : Regions b
+  pub begins : (p : ℕ) → p ≤ 256 → getD b (2 * p) 0 ≡ cond (has p l) (getD a (2 * p) 0 - 1) (getD a (2 * p) 0)
+  pub ends : (p : ℕ) → p ≤ 256 → getD b (2 * p + 1) 0 ≡ getD a (2 * p + 1) 0
+  pub lists : (p : ℕ) → p ≤ 256 → listAt b p ≡ cond (has p l) (i ∷ listAt a p) (listAt a p)

@@ -1,14 +1,14 @@
 -- `heads::list` meets its contract. Assumes nothing.
 use borrow.Author.Needs.{needs}
-use mathlib.Core.Path.{_≡_, refl, sym, ap, _∙_}
-use Prim.Native.Nat.{ℕ, _+_, _-_}
-use native.Mathlib.Omega.{arith}
-use lib.ListN.{take, drop}
+use mathlib.Core.Path.{refl}
 use Rattle.heads.proofs.list.Statement.{statement}
 use Rattle.heads.proofs.list.Tie as tie
 
-add-next : tie.Need-add-next
-add-next c = search needs
+mul-begin : tie.Need-mul-begin
+mul-begin c = search needs
+
+add-end : tie.Need-add-end
+add-end c = search needs
 
 mul-from : tie.Need-mul-from
 mul-from c = search needs
@@ -44,4 +44,4 @@ returns : tie.Need-returns
 returns c = refl
 
 pub list-spec : {M : Type 1} → statement M
-list-spec = tie.close (tie.spec add-next mul-from shared-slice-read-from cast-from mul-to shared-slice-read-to cast-to mul-result sub-result part-result-start part-result-end returns)
+list-spec = tie.close (tie.spec mul-begin add-end mul-from shared-slice-read-from cast-from mul-to shared-slice-read-to cast-to mul-result sub-result part-result-start part-result-end returns)

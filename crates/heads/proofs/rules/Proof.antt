@@ -1,11 +1,12 @@
--- `heads::rules` meets its contract. The invariant of its loop: the places that stand from index 258 on, and those of the rules to come, are the places of
--- all rules. The measure is the number of rules to come. Assumes nothing.
+-- `heads::rules` meets its contract. The invariant of its loop: the places that stand from index 514 on, and those of the rules to come, are the places of
+-- all rules; the words before stay. The measure is the number of rules to come. Assumes nothing.
 use borrow.Author.Needs.{needs}
-use mathlib.Core.Path.{_≡_, sym, ap, _∙_, subst}
+use mathlib.Core.Path.{_≡_, refl, sym, ap, _∙_, subst}
 use mathlib.Core.List.{List, _++_, append-nil}
 use Prim.Native.Nat.{ℕ, _+_, _-_, _≤_, _<_}
 use native.Mathlib.Omega.{arith}
-use lib.ListN.{length, set, length-set}
+use lib.ListN.{length, take, set, length-set}
+use lib.Seq.{take-set-le}
 use Rattle.layout.specs.Layout.{pastRule, RuleLies, RulesLie}
 use Rattle.heads.specs.Heads.{placesFrom, placesOf}
 use Rattle.heads.proofs.Walks.{places-on, places-zero, lies-on}
@@ -15,8 +16,8 @@ use Rattle.heads.proofs.rules.Tie as tie
 
 abbrev Inv-loop : tie.InvT-loop
 Inv-loop t tb lists₀ at₀ i₀ lists at i =
-    (i ≤ tb .rules) × (length lists ≡ 17666) × RulesLie (tb .atoms) (tb .aggregates) t at (tb .rules - i)
-    × (part lists 258 i ++ placesFrom t at (tb .rules - i) ≡ placesOf t tb)
+    (i ≤ tb .rules) × (length lists ≡ 17922) × (take 514 lists ≡ take 514 lists₀) × RulesLie (tb .atoms) (tb .aggregates) t at (tb .rules - i)
+    × (part lists 514 i ++ placesFrom t at (tb .rules - i) ≡ placesOf t tb)
 
 abbrev μ-loop : tie.MeasureT-loop
 μ-loop t tb lists₀ at₀ i₀ lists at i = tb .rules - i
@@ -27,7 +28,7 @@ loop-holds c =
     let h = c .before .pre in
     let t = a .t .now in
     let e : a .tb .rules - 0 ≡ a .tb .rules = omega arith in
-    (omega arith, h .1, subst (RulesLie (a .tb .atoms) (a .tb .aggregates) t (a .tb .first)) (sym e) (h .0 .rulesLie), ap (placesFrom t (a .tb .first)) e)
+    (omega arith, h .1, refl, subst (RulesLie (a .tb .atoms) (a .tb .aggregates) t (a .tb .first)) (sym e) (h .0 .rulesLie), ap (placesFrom t (a .tb .first)) e)
 
 -- the rule at hand lies in the table, and so do those after it
 lies : (c : tie.Then1 Inv-loop μ-loop) → let a = c .before .before .before .before .args in let l = c .before .before .loop in
@@ -35,7 +36,7 @@ lies : (c : tie.Then1 Inv-loop μ-loop) → let a = c .before .before .before .b
 lies c =
     let a = c .before .before .before .before .args in
     let l = c .before .before .loop in
-    lies-on (a .t .now) (l .at) (a .tb .atoms) (a .tb .aggregates) (a .tb .rules - l .i) (omega (arith, c .if1 .taken)) (l .inv .2)
+    lies-on (a .t .now) (l .at) (a .tb .atoms) (a .tb .aggregates) (a .tb .rules - l .i) (omega (arith, c .if1 .taken)) (l .inv .3)
 
 add-place : tie.Need-add-place Inv-loop μ-loop
 add-place c = search needs
@@ -66,16 +67,17 @@ loop-again c =
     let a = s .args in
     let t = a .t .now in
     let e : a .tb .rules - l .i - 1 ≡ a .tb .rules - (l .i + 1) = omega arith in
-    let h : 258 + l .i < length (l .lists) = omega (arith, b .if1 .taken, l .inv .1, s .pre .0 .fewRules) in
+    let h : 514 + l .i < length (l .lists) = omega (arith, b .if1 .taken, l .inv .1, s .pre .0 .fewRules) in
     let r : pastRule t (l .at) ≡ c .past-rule .result = sym (c .past-rule .ensures) in (
       omega (arith, b .if1 .taken),
-      length-set (l .lists) (258 + l .i) (l .at) ∙ l .inv .1,
+      length-set (l .lists) (514 + l .i) (l .at) ∙ l .inv .1,
+      take-set-le 514 (l .lists) (514 + l .i) (l .at) (omega arith) ∙ l .inv .2,
       subst (λ (n : ℕ). RulesLie (a .tb .atoms) (a .tb .aggregates) t (c .past-rule .result) n) e
           (subst (λ (j : ℕ). RulesLie (a .tb .atoms) (a .tb .aggregates) t j (a .tb .rules - l .i - 1)) r (lies b .1)),
-      ap (λ (n : ℕ). part (set (l .lists) (258 + l .i) (l .at)) 258 (l .i + 1) ++ placesFrom t (c .past-rule .result) n) (sym e)
-          ∙ ap (λ (j : ℕ). part (set (l .lists) (258 + l .i) (l .at)) 258 (l .i + 1) ++ placesFrom t j (a .tb .rules - l .i - 1)) (sym r)
-          ∙ moved (l .lists) 258 (l .i) (l .at) (placesFrom t (pastRule t (l .at)) (a .tb .rules - l .i - 1)) (placesOf t (a .tb)) h
-          (ap (λ (m : List ℕ). part (l .lists) 258 (l .i) ++ m) (sym (places-on t (l .at) (a .tb .rules - l .i) (omega (arith, b .if1 .taken)))) ∙ l .inv .3),
+      ap (λ (n : ℕ). part (set (l .lists) (514 + l .i) (l .at)) 514 (l .i + 1) ++ placesFrom t (c .past-rule .result) n) (sym e)
+          ∙ ap (λ (j : ℕ). part (set (l .lists) (514 + l .i) (l .at)) 514 (l .i + 1) ++ placesFrom t j (a .tb .rules - l .i - 1)) (sym r)
+          ∙ moved (l .lists) 514 (l .i) (l .at) (placesFrom t (pastRule t (l .at)) (a .tb .rules - l .i - 1)) (placesOf t (a .tb)) h
+          (ap (λ (m : List ℕ). part (l .lists) 514 (l .i) ++ m) (sym (places-on t (l .at) (a .tb .rules - l .i) (omega (arith, b .if1 .taken)))) ∙ l .inv .4),
     )
 
 same-length : tie.Need-same-length Inv-loop μ-loop
@@ -90,9 +92,10 @@ returns c =
     let z : a .tb .rules - l .i ≡ 0 = omega (arith, c .if1 .left) in
     let t = a .t .now in (
       l .inv .1,
-      ap (part (l .lists) 258) (sym e) ∙ sym (append-nil (part (l .lists) 258 (l .i)))
-          ∙ ap (λ (m : List ℕ). part (l .lists) 258 (l .i) ++ m) (sym (ap (placesFrom t (l .at)) z ∙ places-zero t (l .at)))
-          ∙ l .inv .3,
+      l .inv .2,
+      ap (part (l .lists) 514) (sym e) ∙ sym (append-nil (part (l .lists) 514 (l .i)))
+          ∙ ap (λ (m : List ℕ). part (l .lists) 514 (l .i) ++ m) (sym (ap (placesFrom t (l .at)) z ∙ places-zero t (l .at)))
+          ∙ l .inv .4,
     )
 
 pub rules-spec : {M : Type 1} → statement M

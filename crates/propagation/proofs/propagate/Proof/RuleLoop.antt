@@ -21,7 +21,7 @@ use Rattle.propagation.proofs.propagate.Tie as tie
 use Rattle.propagation.proofs.propagate.Proof.Loops.{Inv-loop, μ-loop, Inv-loop3, μ-loop3, Inv-loop2, μ-loop2, Inv-passes, μ-passes}
 
 -- the place at hand stands in the lists
-pub within : (c : tie.In-loop Inv-loop μ-loop Inv-loop3 μ-loop3 Inv-loop2 μ-loop2 Inv-passes μ-passes) → c .before .loop .r < 17666
+pub within : (c : tie.In-loop Inv-loop μ-loop Inv-loop3 μ-loop3 Inv-loop2 μ-loop2 Inv-passes μ-passes) → c .before .loop .r < 17922
 within c =
     let l = c .before .before .before .before .before .before .pre .1 in
     omega (arith, l .long, l .all .fits, c .loop-test .taken)
