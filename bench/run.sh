@@ -14,6 +14,9 @@ if [ "${1:-}" = check ]; then
 fi
 library=target/staticlib
 if [ -f "$library/libdock.a" ]; then
+    if command -v objdump >/dev/null && command -v python3 >/dev/null; then
+        python3 tools/probes.py "$library/libdock.a"
+    fi
     rustc -O --edition 2021 --cfg dock --check-cfg 'cfg(dock)' -L "$library" -l static=dock bench/src/main.rs -o target/bench/bench
 else
     echo "no $library/libdock.a (rt staticlib dock makes it)"

@@ -7,6 +7,9 @@ if [ ! -f target/staticlib/libdock.a ]; then
     exit 1
 fi
 mkdir -p target/examples
+if command -v objdump >/dev/null && command -v python3 >/dev/null; then
+    PYTHONDONTWRITEBYTECODE=1 python3 tools/probes.py target/staticlib/libdock.a
+fi
 cc -std=c11 -Wall -Wextra -Werror -O2 -I include examples/c/plan.c target/staticlib/libdock.a -o target/examples/plan_c
 rustc -O --edition 2021 -D warnings -L target/staticlib -l static=dock examples/rust/plan.rs -o target/examples/plan_rust
 for program in plan_c plan_rust; do
