@@ -13,7 +13,7 @@ use Rattle.meaning.specs.Program.{Rule, Program, In}
 use Rattle.interpretation.specs.State.{Cell}
 use Rattle.layout.specs.declared.Table.{Table}
 use Rattle.layout.specs.Layout.{atoms, partAt, posAt, pastRule, ruleAt, rulesFrom, Listed, RuleLies, RulesLie, Laid}
-use Rattle.rules.proofs.Scanned.{listed-wide}
+use Rattle.layout.proofs.Rounds.{listed-wide}
 use Rattle.foundation.specs.declared.Adds.{Adds}
 use Rattle.foundation.specs.declared.Adds.the-variants.{Nothing, Atom}
 use Rattle.foundation.specs.Walk.{couldOf, codeOf, atomOf, placeOf, positives, withCandidate, candidatesFrom}

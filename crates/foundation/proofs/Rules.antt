@@ -1,61 +1,36 @@
 -- The rules of a table one after the other, as the loops take them.
 -- Assumes nothing.
-use Prim.Native.Nat.{ℕ, zero, suc, _-_, _≤_, _<_}
+use Prim.Native.Nat.{ℕ, _-_, _≤_, _<_}
 use native.Mathlib.Omega.{arith}
-use mathlib.Core.Path.{_≡_, refl, sym, ap, subst, _∙_}
+use mathlib.Core.Path.{_≡_, ap, _∙_}
 use mathlib.Core.Bool.{Bool, true, false, not, _&&_}
-use mathlib.Core.List.{List, [], _∷_}
+use mathlib.Core.List.{List}
 use lib.IntN.{ℤ}
-use Rattle.meaning.specs.Lists.{Is, all}
+use Rattle.meaning.specs.Lists.{all}
 use Rattle.meaning.specs.Aggregates.{Atoms}
-use Rattle.meaning.specs.Program.{Program, In}
+use Rattle.meaning.specs.Program.{In}
 use Rattle.meaning.specs.Answers.{holds, model}
 use Rattle.interpretation.specs.State.{Cell, trueAtoms, AllDefined}
 use Rattle.layout.specs.declared.Table.{Table}
-use Rattle.layout.specs.Layout.{pastRule, ruleAt, rulesFrom, RuleLies, RulesLie, Laid}
+use Rattle.layout.specs.Layout.{pastRule, ruleAt, rulesFrom, RuleLies, Laid}
 use Rattle.layout.proofs.Inside.{rule-in}
+use Rattle.layout.proofs.Rounds.{rules-on, rules-none}
 use Rattle.rules.specs.Demand.{demandOf, isConflict}
 use Rattle.foundation.specs.declared.Adds.the-variants.{Atom}
 use Rattle.foundation.specs.Walk.{couldOf}
 use Rattle.foundation.proofs.Decided.{holds-decided}
 use Rattle.foundation.proofs.Adding.{could-e}
 
-module _ (top most : ℕ) (t : List ℤ) (i : ℕ) where
-  abbrev Parts : ℕ → Type 0
-  Parts n = RuleLies top most t i × RulesLie top most t (pastRule t i) n
-
-  lies-suc : (n : ℕ) → RulesLie top most t i (suc n) → Parts n
-  unfolding RulesLie
-  lies-suc n l = l
-
-  -- the first of n rules lies there, and so do the others
-  pub lies-on : (n : ℕ) → 0 < n → RulesLie top most t i n → Parts (n - 1)
-  lies-on n h l = let e : n ≡ suc (n - 1) = omega arith in lies-suc (n - 1) (subst (RulesLie top most t i) e l)
-
 module _ (t : List ℤ) (i : ℕ) where
-  rules-suc : (n : ℕ) → rulesFrom t i (suc n) ≡ ruleAt t i ∷ rulesFrom t (pastRule t i) n
-  unfolding rulesFrom
-  rules-suc n = refl
-
-  pub rules-on : (n : ℕ) → 0 < n → rulesFrom t i n ≡ ruleAt t i ∷ rulesFrom t (pastRule t i) (n - 1)
-  rules-on n h = let e : n ≡ suc (n - 1) = omega arith in ap (rulesFrom t i) e ∙ rules-suc (n - 1)
-
-  rules-zero : rulesFrom t i 0 ≡ []
-  unfolding rulesFrom
-  rules-zero = refl
-
-  pub rules-none : (n : ℕ) → n ≤ 0 → rulesFrom t i n ≡ []
-  rules-none n h = let e : n ≡ 0 = omega arith in ap (rulesFrom t i) e ∙ rules-zero
-
   -- ---- a model
 
   model-cons : (Y : Atoms) (n : ℕ) → 0 < n → model (rulesFrom t i n) Y ≡ (holds Y (ruleAt t i) && model (rulesFrom t (pastRule t i) (n - 1)) Y)
   unfolding model
-  model-cons Y n h = ap (all (holds Y)) (rules-on n h)
+  model-cons Y n h = ap (all (holds Y)) (rules-on t i n h)
 
   pub model-none : (Y : Atoms) (n : ℕ) → n ≤ 0 → model (rulesFrom t i n) Y ≡ true
   unfolding model
-  model-none Y n h = ap (all (holds Y)) (rules-none n h)
+  model-none Y n h = ap (all (holds Y)) (rules-none t i n h)
 
   module _ (tb : Table) (laid : Laid t tb) (a : ℕ → Cell) (D : AllDefined (tb .atoms) a) (l : RuleLies (tb .atoms) (tb .aggregates) t i) (n : ℕ) (h : 0 < n) where
     rule-holds : (b : Bool) → isConflict (demandOf a (ruleAt t i)) ≡ b → holds (trueAtoms (tb .atoms) a) (ruleAt t i) ≡ not b

@@ -1,20 +1,20 @@
 -- How the code walks: a list of atoms from index i on, one atom at a time; the rules of a table, one at a time; the rules at a list of places.
 -- Assumes nothing.
-use mathlib.Core.Path.{_≡_, refl, sym, ap, _∙_, subst}
+use mathlib.Core.Path.{_≡_, refl, sym, ap, _∙_}
 use mathlib.Core.Bool.{Bool, true, false, cond, _||_}
 use mathlib.Core.List.{List, [], _∷_}
 use mathlib.Core.Logic.{_⊎_, inl, inr, _≢_}
 use Prim.Native.Nat.{ℕ, zero, suc, _+_, _-_, _≤_, _<_}
 use native.Mathlib.Numerals.{add-one}
 use native.Mathlib.Omega.{arith}
-use lib.Dec.{eqb, eqb→eq, eqb-refl}
+use lib.Dec.{eqb}
 use lib.IntN.{ℤ, pos, natAbs}
 use lib.ListN.{length, getD, take, drop, length-drop, drop-of-length-le}
 use lib.Seq.{drop-cons, take-all}
 use Rattle.meaning.specs.Lists.{has}
 use Rattle.meaning.proofs.Cond.{eqCase}
-use Rattle.meaning.proofs.Tools.{contra, T→Is, Is→T}
-use Rattle.layout.specs.Layout.{atoms, Members, partAt, pastRule, ruleAt, RuleLies, RulesLie}
+use Rattle.meaning.proofs.Tools.{eq-i, neq-i}
+use Rattle.layout.specs.Layout.{atoms, Members, partAt, pastRule, ruleAt}
 use Rattle.heads.specs.Heads.{placesFrom, withHead}
 
 -- what a slice from index i on has
@@ -22,12 +22,6 @@ pub from-on : {A : Type 0} (i : ℕ) (l : List A) → take (length l - i) (drop 
 from-on i l = take-all (length l - i) (drop i l) (omega (arith, length-drop i l))
 
 -- ---- a list of atoms
-
-eqb-same : (m n : ℕ) → m ≡ n → eqb m n ≡ true
-eqb-same m n e = ap (λ (k : ℕ). eqb m k) (sym e) ∙ T→Is (eqb m m) (eqb-refl m)
-
-eqb-not : (m n : ℕ) → (m ≡ n → ⊥) → eqb m n ≡ false
-eqb-not m n f = contra (eqb m n) {b = false} (λ h. absurd (f (eqb→eq m n (Is→T (eqb m n) h)))) refl
 
 module _ (l : List ℤ) (i : ℕ) (p : ℕ) where
   abbrev here : ℕ
@@ -45,10 +39,10 @@ module _ (l : List ℤ) (i : ℕ) (p : ℕ) where
   has-nil = refl
 
   pub has-here : i < length l → here ≡ p → has p (atoms (drop i l)) ≡ true
-  has-here h e = ap (has p) (split h) ∙ has-cons here (atoms (drop (i + 1) l)) ∙ ap (λ (b : Bool). b || has p (atoms (drop (i + 1) l))) (eqb-same p here (sym e))
+  has-here h e = ap (has p) (split h) ∙ has-cons here (atoms (drop (i + 1) l)) ∙ ap (λ (b : Bool). b || has p (atoms (drop (i + 1) l))) (eq-i (sym e))
 
   pub has-on : i < length l → (here ≡ p → ⊥) → has p (atoms (drop i l)) ≡ has p (atoms (drop (i + 1) l))
-  has-on h n = ap (has p) (split h) ∙ has-cons here (atoms (drop (i + 1) l)) ∙ ap (λ (b : Bool). b || has p (atoms (drop (i + 1) l))) (eqb-not p here (λ e. n (sym e)))
+  has-on h n = ap (has p) (split h) ∙ has-cons here (atoms (drop (i + 1) l)) ∙ ap (λ (b : Bool). b || has p (atoms (drop (i + 1) l))) (neq-i p here (λ e. n (sym e)))
 
   pub has-end : length l ≤ i → has p (atoms (drop i l)) ≡ false
   has-end h = ap (λ (s : List ℤ). has p (atoms s)) (drop-of-length-le l h) ∙ has-nil
@@ -69,7 +63,7 @@ pub has-zero : (top : ℕ) (l : List ℤ) → Members top l → has 0 (atoms l) 
 unfolding has
 has-zero top [] f = refl
 has-zero top (x ∷ l) f =
-    ap (λ (b : Bool). b || has 0 (atoms l)) (eqb-not 0 (natAbs x) (λ e. omega (arith, e, f 0 (omega arith) .0)))
+    ap (λ (b : Bool). b || has 0 (atoms l)) (neq-i 0 (natAbs x) (λ e. omega (arith, e, f 0 (omega arith) .0)))
     ∙ has-zero top l (λ k h. f (suc k) (omega (arith, h)))
 
 -- a list of atoms from its end on: the atom before index i, and those from i on
@@ -109,16 +103,6 @@ module _ (t : List ℤ) (i : ℕ) where
   places-on n h =
       let e : n ≡ suc (n - 1) = omega arith in
       ap (placesFrom t i) e ∙ places-suc (n - 1)
-
-  module _ (top most : ℕ) where
-    lies-suc : (n : ℕ) → RulesLie top most t i (suc n) → RuleLies top most t i × RulesLie top most t (pastRule t i) n
-    unfolding RulesLie
-    lies-suc n h = h
-
-    pub lies-on : (n : ℕ) → 0 < n → RulesLie top most t i n → RuleLies top most t i × RulesLie top most t (pastRule t i) (n - 1)
-    lies-on n h k =
-        let e : n ≡ suc (n - 1) = omega arith in
-        lies-suc (n - 1) (subst (RulesLie top most t i) e k)
 
 pub places-length : (t : List ℤ) (i n : ℕ) → length (placesFrom t i n) ≡ n
 unfolding placesFrom

@@ -86,6 +86,9 @@ eq-i {m} {n} e = rw e (T→Is _ (eqb-refl n))
 pub neq : (m n : ℕ) → eqb m n ≡ false → m ≢ n
 neq m n h e = clash (eq-i e) h
 
+pub neq-i : (m n : ℕ) → m ≢ n → eqb m n ≡ false
+neq-i m n f = contra (eqb m n) {b = false} (λ h. absurd (f (eq m n h))) refl
+
 -- ---- lists
 
 module _ {A : Type 0} where

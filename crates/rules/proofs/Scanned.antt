@@ -16,7 +16,7 @@ use Rattle.interpretation.specs.declared.Value.{Value}
 use Rattle.interpretation.specs.declared.Value.the-variants.{True, False, Undefined}
 use Rattle.valuing.specs.Values.{Lit, atomLit, aggLit, value}
 use Rattle.valuing.specs.Reasons.{reasonsOf}
-use Rattle.layout.specs.Layout.{atoms, Members, Listed, partAt, posAt, negAt, aggsAt, ruleAt}
+use Rattle.layout.specs.Layout.{atoms, partAt, posAt, negAt, aggsAt, ruleAt}
 use Rattle.steps.specs.Steps.{headLits, bodyLits}
 use Rattle.literals.specs.Scan.{atomLits, literalLits, atomsReason}
 use Rattle.literals.proofs.Together.{union-none, reasons-append, reasons-atoms}
@@ -132,12 +132,3 @@ pub reasons-at : (a : ℕ → Cell) (R : ℕ → Levels) (t : List ℤ) (at : �
     (union (atomsReason a R (atoms (partAt t (negAt t at)))) (union (reasonsOf a R (literalLits t (partAt t (aggsAt t at)))) noLevels)))
 unfolding ruleAt
 reasons-at a R t at = reasons-parts a R (ruleAt t at)
-
--- ---- ranges
-
--- atoms of 1 .. N are atoms of 1 .. 256
-pub members-wide : (n m : ℕ) (l : List ℤ) → n ≤ m → Members n l → Members m l
-members-wide n m l h f k i = let t = f k i in (t .0, omega (arith, t .1))
-
-pub listed-wide : (n m : ℕ) (t : List ℤ) (i : ℕ) → n ≤ m → Listed n t i → Listed m t i
-listed-wide n m t i h l = record { fits = l .fits; members = members-wide n m (partAt t i) h (l .members) }

@@ -1,19 +1,18 @@
 -- The four lists of a rule that lies in the table, one after the other: what step e sets there, and where a witness is found. Assumes nothing.
-use mathlib.Core.Path.{_≡_, refl, sym, ap, _∙_}
-use mathlib.Core.Bool.{Bool, true, false}
+use mathlib.Core.Path.{_≡_, refl, ap, _∙_}
+use mathlib.Core.Bool.{true, false}
 use mathlib.Core.List.{List}
-use Prim.Native.Nat.{ℕ, _≤_, _<_}
+use Prim.Native.Nat.{ℕ}
 use native.Mathlib.Omega.{arith}
 use lib.IntN.{ℤ}
-use lib.ListN.{length}
 use Rattle.interpretation.specs.State.{Cell}
 use Rattle.interpretation.specs.declared.Value.the-variants.{True, False, Undefined}
 use Rattle.interpretation.specs.declared.Choice.{Choice}
 use Rattle.interpretation.specs.declared.Choice.the-variants as choice
-use Rattle.layout.specs.Layout.{atoms, partAt, pastAt, posAt, negAt, aggsAt, pastRule, ruleAt, Members, Listed, RuleLies, Laid}
+use Rattle.layout.specs.Layout.{atoms, partAt, posAt, negAt, aggsAt, ruleAt, Members, Listed, Laid}
 use Rattle.layout.specs.declared.Table.{Table}
+use Rattle.layout.proofs.Rounds.{members-wide}
 use Rattle.literals.specs.Scan.{literalLits, scanOf}
-use Rattle.support.specs.declared.Next.{Next}
 use Rattle.support.specs.declared.Next.the-variants.{Set, Nothing}
 use Rattle.support.specs.declared.Witness.{Witness}
 use Rattle.support.specs.declared.Witness.the-variants as witness
@@ -21,10 +20,7 @@ use Rattle.support.specs.Asking.{valuesOf, firstWith, otherTrue, orSet, 
 
 -- the atoms of a list are atoms of 1 to 256
 pub in-array : (t : List ℤ) (tb : Table) → Laid t tb → (i : ℕ) → Listed (tb .atoms) t i → Members 256 (partAt t i)
-in-array t tb laid i listed k h =
-    let m = listed .members k h in
-    let f = laid .fewAtoms in
-    (m .0, omega (arith, m .1, f))
+in-array t tb laid i listed = members-wide (tb .atoms) 256 (partAt t i) (laid .fewAtoms) (listed .members)
 
 module _ (a : ℕ → Cell) (t : List ℤ) (i : ℕ) where
   -- ---- what step e sets

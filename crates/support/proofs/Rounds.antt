@@ -9,19 +9,18 @@ use mathlib.Core.Option.{Option, none, some}
 use mathlib.Core.List.{List, [], _∷_, map}
 use lib.Dec.{ltb}
 use lib.IntN.{ℤ}
-use lib.ListN.{length, getD, take, drop, length-drop, drop-of-length-le}
-use lib.Seq.{take-all, drop-cons, getD-drop}
+use lib.ListN.{length, getD, drop, length-drop, drop-of-length-le}
+use lib.Seq.{drop-cons, getD-drop}
 use Rattle.meaning.specs.Lists.{has}
 use Rattle.meaning.specs.Program.{Rule, Program}
 use Rattle.levels.specs.Levels.{Levels, noLevels, union}
 use Rattle.interpretation.specs.State.{Cell}
-use Rattle.layout.specs.Layout.{ruleAt, rulesFrom, RuleLies, programOf, Laid}
+use Rattle.layout.specs.Layout.{ruleAt, RuleLies, programOf, Laid}
 use Rattle.layout.specs.declared.Table.{Table}
 use Rattle.heads.specs.Heads.{placesOf, withHead}
 use Rattle.heads.proofs.Laws.{places-lie, with-lie, with-has, rules-at}
 use Rattle.valuing.specs.Values.{Lit}
 use Rattle.valuing.specs.Reasons.{reasonOf}
-use Rattle.support.specs.declared.Ask.{Ask}
 use Rattle.support.specs.declared.Ask.the-variants.{Conflict}
 use Rattle.support.specs.declared.Next.{Next}
 use Rattle.support.specs.Asking.{witnessOf, Candidates, skipped, someRule, soleBy, trueBy, joinedBy, blamedBy, blameBy, blameOf}
@@ -42,10 +41,6 @@ candidates-left t tb p i l h = record {
   where
     more : (k : ℕ) → k < length (drop i l) → i + k < length l
     more k n = let e = length-drop i l in omega (arith, n, e)
-
--- from n on, as the code takes them
-pub left-all : (n : ℕ) (l : List ℕ) → take (length l - n) (drop n l) ≡ drop n l
-left-all n l = let e = length-drop n l in take-all (length l - n) (drop n l) (omega (arith, e))
 
 -- ---- the first that passes
 

@@ -1,30 +1,20 @@
 -- How the code walks: a list of atoms from index i on, one atom at a time. Assumes nothing.
 use mathlib.Core.Path.{_≡_, refl, sym, ap, _∙_}
-use mathlib.Core.Logic.{_≢_}
-use mathlib.Core.Bool.{Bool, true, false, not, _&&_, _||_}
+use mathlib.Core.Bool.{Bool, true, false, not, _&&_}
 use mathlib.Core.List.{List, [], _∷_}
-use Prim.Native.Nat.{ℕ, suc, _+_, _≤_, _<_}
+use Prim.Native.Nat.{ℕ, _+_, _≤_, _<_}
 use native.Mathlib.Numerals.{add-one}
 use native.Mathlib.Omega.{arith}
-use lib.Dec.{eqb, eqb→eq, eqb-refl}
+use lib.Dec.{eqb}
 use lib.IntN.{ℤ, pos, natAbs}
 use lib.ListN.{length, getD, drop, drop-of-length-le}
 use lib.Seq.{drop-cons}
-use Rattle.meaning.specs.Lists.{has}
-use Rattle.meaning.specs.Cond.{ifEq}
-use Rattle.meaning.proofs.Tools.{contra, T→Is, Is→T}
 use Rattle.interpretation.specs.declared.Value.{Value}
 use Rattle.interpretation.specs.declared.Choice.{Choice}
 use Rattle.interpretation.specs.declared.Choice.the-variants as choice
 use Rattle.layout.specs.Layout.{atoms}
 use Rattle.valuing.specs.Values.{saysTrue}
 use Rattle.support.specs.Asking.{sameValue, firstWith, otherTrue}
-
-pub eqb-same : (m n : ℕ) → m ≡ n → eqb m n ≡ true
-eqb-same m n e = ap (λ (k : ℕ). eqb m k) (sym e) ∙ T→Is (eqb m m) (eqb-refl m)
-
-pub eqb-not : (m n : ℕ) → (m ≡ n → ⊥) → eqb m n ≡ false
-eqb-not m n f = contra (eqb m n) {b = false} (λ h. absurd (f (eqb→eq m n (Is→T (eqb m n) h)))) refl
 
 module _ (l : List ℤ) (i : ℕ) where
   abbrev here : ℕ

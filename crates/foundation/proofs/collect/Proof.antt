@@ -14,7 +14,8 @@ use Rattle.layout.specs.Layout.{posAt, pastRule, ruleAt, RuleLies, RulesLie}
 use Rattle.foundation.specs.declared.Adds.the-variants.{Nothing, Atom}
 use Rattle.foundation.specs.Walk.{couldOf, codeOf, candidatesFrom}
 use Rattle.foundation.proofs.Words.{grown, stands-i}
-use Rattle.foundation.proofs.Rules.{lies-on, could-range}
+use Rattle.layout.proofs.Rounds.{lies-on}
+use Rattle.foundation.proofs.Rules.{could-range}
 use Rattle.foundation.proofs.Candidates.{code-is, candidates-on, candidates-none}
 use Rattle.foundation.proofs.collect.Statement.{statement}
 use Rattle.foundation.proofs.collect.Tie as tie
@@ -47,7 +48,7 @@ lies : (c : tie.In-loop Inv-loop μ-loop)
 lies c =
     let b = c .before in
     let tb = start b .args .tb in
-    lies-on (tb .atoms) (tb .aggregates) (table b) (b .loop .at) (b .loop .left) (c .loop-test .taken) (b .loop .inv .2)
+    lies-on (table b) (b .loop .at) (tb .atoms) (tb .aggregates) (b .loop .left) (c .loop-test .taken) (b .loop .inv .2)
 
 could-add-requires : tie.Need-could-add-requires Inv-loop μ-loop
 could-add-requires c κs = (start (c .before) .pre .0, lies c .0)

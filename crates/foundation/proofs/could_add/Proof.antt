@@ -8,7 +8,7 @@ use lib.IntN.{ℤ}
 use Rattle.interpretation.specs.State.{Cell}
 use Rattle.interpretation.specs.View.{valued}
 use Rattle.layout.specs.Layout.{atoms, Members, partAt, ruleAt}
-use Rattle.rules.proofs.Scanned.{members-wide}
+use Rattle.layout.proofs.Rounds.{members-wide}
 use Rattle.foundation.specs.declared.Adds.the-variants.{Atom}
 use Rattle.foundation.specs.Walk.{addIf, soleOf, couldOf}
 use Rattle.foundation.proofs.Reading.{could-none, could-atom}

@@ -3,17 +3,16 @@
 -- Assumes nothing.
 use borrow.Author.Needs.{needs}
 use mathlib.Core.Path.{_≡_, refl, sym, ap, subst, _∙_}
-use mathlib.Core.Bool.{Bool, true, false}
-use Prim.Native.Nat.{ℕ, _-_, _≤_, _<_}
+use mathlib.Core.Bool.{true}
+use Prim.Native.Nat.{ℕ, _-_}
 use native.Mathlib.Omega.{arith}
-use Rattle.meaning.specs.Aggregates.{Atoms}
 use Rattle.meaning.specs.Answers.{model}
 use Rattle.interpretation.specs.State.{trueAtoms}
 use Rattle.interpretation.specs.View.{valued}
 use Rattle.layout.specs.Layout.{pastRule, ruleAt, rulesFrom, programOf, RuleLies, RulesLie}
-use Rattle.rules.specs.declared.Step.{Step}
 use Rattle.rules.specs.Demand.{demandOf, isConflict}
-use Rattle.foundation.proofs.Rules.{lies-on, model-fails, model-on, model-none}
+use Rattle.layout.proofs.Rounds.{lies-on}
+use Rattle.foundation.proofs.Rules.{model-fails, model-on, model-none}
 use Rattle.foundation.proofs.is_model.Statement.{statement}
 use Rattle.foundation.proofs.is_model.Tie as tie
 
@@ -33,7 +32,7 @@ lies : (c : tie.In-loop Inv-loop μ-loop)
     → let a = c .before .before .args in
     RuleLies (a .tb .atoms) (a .tb .aggregates) (a .t .now) (c .before .loop .at)
     × RulesLie (a .tb .atoms) (a .tb .aggregates) (a .t .now) (pastRule (a .t .now) (c .before .loop .at)) (c .before .loop .left - 1)
-lies c = let a = c .before .before .args in lies-on (a .tb .atoms) (a .tb .aggregates) (a .t .now) (c .before .loop .at) (c .before .loop .left) (c .loop-test .taken) (c .before .loop .inv .0)
+lies c = let a = c .before .before .args in lies-on (a .t .now) (c .before .loop .at) (a .tb .atoms) (a .tb .aggregates) (c .before .loop .left) (c .loop-test .taken) (c .before .loop .inv .0)
 
 demand-requires : tie.Need-demand-requires Inv-loop μ-loop
 demand-requires c κs = (c .before .before .pre .0, lies c .0)

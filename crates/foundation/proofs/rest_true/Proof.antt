@@ -11,7 +11,7 @@ use Rattle.interpretation.specs.View.{valued}
 use Rattle.layout.specs.Layout.{Listed, partAt, pastAt, posAt, negAt}
 use Rattle.literals.specs.Scan.{atomLits, literalLits}
 use Rattle.rules.specs.Demand.{together, asks, isConflict}
-use Rattle.rules.proofs.Scanned.{listed-wide}
+use Rattle.layout.proofs.Rounds.{listed-wide}
 use Rattle.foundation.proofs.Reading.{rest-at}
 use Rattle.foundation.proofs.rest_true.Statement.{statement}
 use Rattle.foundation.proofs.rest_true.Tie as tie

@@ -9,7 +9,8 @@ use lib.ListN.{length, take, set, length-set}
 use lib.Seq.{take-set-le}
 use Rattle.layout.specs.Layout.{pastRule, RuleLies, RulesLie}
 use Rattle.heads.specs.Heads.{placesFrom, placesOf}
-use Rattle.heads.proofs.Walks.{places-on, places-zero, lies-on}
+use Rattle.layout.proofs.Rounds.{lies-on}
+use Rattle.heads.proofs.Walks.{places-on, places-zero}
 use Rattle.heads.proofs.Lists.{part, moved}
 use Rattle.heads.proofs.rules.Statement.{statement}
 use Rattle.heads.proofs.rules.Tie as tie

@@ -11,12 +11,12 @@ use lib.ListN.{length}
 use Rattle.interpretation.specs.State.{Cell}
 use Rattle.interpretation.specs.View.{valued}
 use Rattle.layout.specs.Layout.{Listed, partAt, pastAt, posAt, negAt}
+use Rattle.layout.proofs.Rounds.{listed-wide}
 use Rattle.literals.specs.Scan.{atomLits, literalLits}
 use Rattle.rules.specs.declared.Step.{Step}
-use Rattle.rules.specs.declared.Step.the-variants.{Nothing}
 use Rattle.rules.specs.Demand.{together, asks}
 use Rattle.rules.proofs.Asks.{is-nothing}
-use Rattle.rules.proofs.Scanned.{headAsks, posAsks, demand-all, stops-head, stops-pos, listed-wide}
+use Rattle.rules.proofs.Scanned.{headAsks, posAsks, demand-all, stops-head, stops-pos}
 use Rattle.rules.proofs.demand.Statement.{statement}
 use Rattle.rules.proofs.demand.Tie as tie
 

@@ -13,7 +13,8 @@ use Rattle.interpretation.specs.View.{valued}
 use Rattle.valuing.specs.Reasons.{reasonsOf}
 use Rattle.layout.specs.Layout.{atoms, Members, partAt, pastAt, posAt, negAt, aggsAt}
 use Rattle.literals.specs.Scan.{literalLits, atomsReason}
-use Rattle.rules.proofs.Scanned.{members-wide, reasons-at}
+use Rattle.layout.proofs.Rounds.{members-wide}
+use Rattle.rules.proofs.Scanned.{reasons-at}
 use Rattle.rules.proofs.reason.Statement.{statement}
 use Rattle.rules.proofs.reason.Tie as tie
 

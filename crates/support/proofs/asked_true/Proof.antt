@@ -1,15 +1,16 @@
 -- `support::asked_true` meets its contract. Assumes nothing.
 use borrow.Author.Needs.{needs}
-use mathlib.Core.Path.{_≡_, refl, sym, ap, _∙_, subst}
+use mathlib.Core.Path.{sym, ap, _∙_, subst}
 use mathlib.Core.List.{List}
-use Prim.Native.Nat.{ℕ, suc, _+_, _≤_, _<_}
+use Prim.Native.Nat.{ℕ, _+_}
 use native.Mathlib.Numerals.{add-one}
 use native.Mathlib.Omega.{arith}
-use lib.ListN.{length, getD, drop}
+use lib.ListN.{getD, drop}
 use Rattle.interpretation.specs.View.{valued}
 use Rattle.layout.specs.Layout.{ruleAt}
-use Rattle.support.specs.Asking.{Candidates, supportsOf, someRule, forcedOf, soleBy, skipped, trueBy}
-use Rattle.support.proofs.Rounds.{candidates-left, left-all, true-at, true-none}
+use Rattle.heads.proofs.Walks.{from-on}
+use Rattle.support.specs.Asking.{Candidates, supportsOf, someRule, forcedOf, soleBy}
+use Rattle.support.proofs.Rounds.{candidates-left, true-at, true-none}
 use Rattle.support.proofs.asked_true.Statement.{statement}
 use Rattle.support.proofs.asked_true.Tie as tie
 use Rattle.support.proofs.asked_true.Reads as reads
@@ -50,7 +51,7 @@ sole-requires c κs =
     let s = d .before .before in
     let a = s .args in
     let k = d .first-support .result in
-    (s .pre .0, s .pre .1 .lie k (c .before .before .if1 .taken), subst (Candidates (a .t .now) (a .tb) (a .p)) (sym (left-all (k + 1) (a .l .now))) (candidates-left (a .t .now) (a .tb) (a .p) (k + 1) (a .l .now) (s .pre .1)))
+    (s .pre .0, s .pre .1 .lie k (c .before .before .if1 .taken), subst (Candidates (a .t .now) (a .tb) (a .p)) (sym (from-on (k + 1) (a .l .now))) (candidates-left (a .t .now) (a .tb) (a .p) (k + 1) (a .l .now) (s .pre .1)))
 
 returns : tie.Need-returns
 returns c =
@@ -60,7 +61,7 @@ returns c =
     let f = supportsOf (valued (a .values .now)) (a .p) in
     let x = valued (a .values .now) in
     c .sole .ensures
-    ∙ ap (λ (m : List ℕ). soleBy (getD (a .l .now) k 0) (someRule f (a .t .now) m) (forcedOf x (ruleAt (a .t .now) (getD (a .l .now) k 0)))) (left-all (k + 1) (a .l .now))
+    ∙ ap (λ (m : List ℕ). soleBy (getD (a .l .now) k 0) (someRule f (a .t .now) m) (forcedOf x (ruleAt (a .t .now) (getD (a .l .now) k 0)))) (from-on (k + 1) (a .l .now))
     ∙ ap (λ (j : ℕ). soleBy (getD (a .l .now) k 0) (someRule f (a .t .now) (drop j (a .l .now))) (forcedOf (valued (a .values .now)) (ruleAt (a .t .now) (getD (a .l .now) k 0)))) (add-one k)
     ∙ sym (true-at f (a .t .now) (forcedOf (valued (a .values .now))) (a .l .now) k (sym (d .first-support .ensures)) (c .before .before .before .if1 .taken))
 

@@ -8,7 +8,7 @@ use Rattle.levels.specs.View.{row, rows}
 use Rattle.layout.specs.Layout.{partAt, pastRule, Members, ruleAt, rulesFrom, RuleLies, RulesLie}
 use Rattle.meaning.specs.Program.{Program}
 use Rattle.depend.specs.Reach.{targets}
-use Rattle.depend.proofs.Walk.{members-up, lies-on, rules-on, rules-none}
+use Rattle.layout.proofs.Rounds.{members-wide, lies-on, rules-on, rules-none}
 use Rattle.depend.proofs.Graph.{arcs, arcs-is, together, arcs-move, arcs-at}
 use Rattle.depend.proofs.arcs.fill.Statement.{statement}
 use Rattle.depend.proofs.arcs.fill.Tie as tie
@@ -42,7 +42,7 @@ from-each-requires c κs =
     let d = c .before .before .before in
     let s = d .before .before in
     let t = s .args .t .now in (
-      subst (Members 256) (sym (c .before .part .ensures)) (members-up (s .args .tb .atoms) (partAt t (d .before .loop .at)) (s .pre .0 .fewAtoms) (lies d .0 .heads .members)),
+      subst (Members 256) (sym (c .before .part .ensures)) (members-wide (s .args .tb .atoms) 256 (partAt t (d .before .loop .at)) (s .pre .0 .fewAtoms) (lies d .0 .heads .members)),
       d .before .loop .inv .1,
     )
 

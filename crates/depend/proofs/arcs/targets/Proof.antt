@@ -10,7 +10,7 @@ use Rattle.levels.specs.Levels.{noLevels, union}
 use Rattle.levels.specs.View.{row}
 use Rattle.layout.specs.Layout.{partAt, pastAt, posAt, aggsAt, Members, ruleAt}
 use Rattle.depend.specs.Reach.{targets, listed, literals}
-use Rattle.depend.proofs.Walk.{members-up}
+use Rattle.layout.proofs.Rounds.{members-wide}
 use Rattle.depend.proofs.Graph.{targets-plain, targets-added}
 use Rattle.depend.proofs.arcs.targets.Statement.{statement}
 use Rattle.depend.proofs.arcs.targets.Tie as tie
@@ -41,7 +41,7 @@ with-atoms-requires : tie.Need-with-atoms-requires
 with-atoms-requires c κs =
     let s = c .before .before .before .before .before in
     let t = s .args .t .now in
-    subst (Members 256) (sym (body (c .before))) (members-up (s .args .tb .atoms) (partAt t (posAt t (s .args .at))) (s .pre .0 .fewAtoms) (s .pre .1 .poss .members))
+    subst (Members 256) (sym (body (c .before))) (members-wide (s .args .tb .atoms) 256 (partAt t (posAt t (s .args .at))) (s .pre .0 .fewAtoms) (s .pre .1 .poss .members))
 
 -- the positive body atoms
 positives : (c : tie.After-with-atoms) → let a = c .before .before .before .before .before .before .args in

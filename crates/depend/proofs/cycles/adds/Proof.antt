@@ -6,7 +6,7 @@ use Rattle.layout.specs.Layout.{partAt, aggsAt, atoms, Members, ruleAt}
 use Rattle.depend.specs.Reach.{reach}
 use Rattle.depend.specs.Cycles.{returned}
 use Rattle.layout.specs.Layout.{literalOf}
-use Rattle.depend.proofs.Walk.{members-up}
+use Rattle.layout.proofs.Rounds.{members-wide}
 use Rattle.depend.proofs.cycles.adds.Statement.{statement}
 use Rattle.depend.proofs.cycles.adds.Tie as tie
 
@@ -28,7 +28,7 @@ head-reached-requires c κs =
     let s = c .before .before .before in
     let t = s .args .t .now in (
       s .pre .0,
-      subst (Members 256) (sym (c .before .part .ensures)) (members-up (s .args .tb .atoms) (partAt t (s .args .at)) (s .pre .0 .fewAtoms) (s .pre .1 .heads .members)),
+      subst (Members 256) (sym (c .before .part .ensures)) (members-wide (s .args .tb .atoms) 256 (partAt t (s .args .at)) (s .pre .0 .fewAtoms) (s .pre .1 .heads .members)),
       subst (Members (s .args .tb .aggregates)) (sym (literals c)) (s .pre .1 .aggs .members),
     )
 

@@ -8,7 +8,8 @@ use Rattle.meaning.specs.Program.{Rule}
 use Rattle.layout.specs.Layout.{pastRule, atoms, rulesFrom, RuleLies, RulesLie}
 use Rattle.depend.specs.Reach.{reach}
 use Rattle.depend.specs.Cycles.{returned, lowest}
-use Rattle.depend.proofs.Walk.{lies-on, lowest-here, lowest-later, lowest-end}
+use Rattle.layout.proofs.Rounds.{lies-on}
+use Rattle.depend.proofs.Walk.{lowest-here, lowest-later, lowest-end}
 use Rattle.depend.proofs.cycles.first_aggregate.Statement.{statement}
 use Rattle.depend.proofs.cycles.first_aggregate.Tie as tie
 

@@ -9,7 +9,8 @@ use Rattle.meaning.specs.Program.{Rule}
 use Rattle.layout.specs.Layout.{partAt, pastRule, atoms, Members, ruleAt, rulesFrom, RuleLies, RulesLie}
 use Rattle.depend.specs.Reach.{reach}
 use Rattle.depend.specs.Cycles.{crossed, lowest}
-use Rattle.depend.proofs.Walk.{members-up, lies-on, lowest-here, lowest-later, lowest-end}
+use Rattle.layout.proofs.Rounds.{members-wide, lies-on}
+use Rattle.depend.proofs.Walk.{lowest-here, lowest-later, lowest-end}
 use Rattle.depend.proofs.cycles.first_head.Statement.{statement}
 use Rattle.depend.proofs.cycles.first_head.Tie as tie
 
@@ -48,7 +49,7 @@ crossed-requires : tie.Need-crossed-requires Inv-loop μ-loop
 crossed-requires c κs =
     let b = c .before .before in
     let w = b .loop .inv .0 in
-    subst (Members 256) (sym (c .part .ensures)) (members-up (w .0) (partAt (b .before .args .t .now) (b .loop .at)) (w .2) (lies (c .before) .0 .heads .members))
+    subst (Members 256) (sym (c .part .ensures)) (members-wide (w .0) 256 (partAt (b .before .args .t .now) (b .loop .at)) (w .2) (lies (c .before) .0 .heads .members))
 
 -- what the rule's test says
 tested : (c : tie.After-crossed Inv-loop μ-loop) → let b = c .before .before .before in

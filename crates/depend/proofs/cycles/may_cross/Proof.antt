@@ -10,7 +10,8 @@ use Rattle.meaning.specs.Lists.{any}
 use Rattle.meaning.specs.Program.{Rule}
 use Rattle.layout.specs.Layout.{pastRule, ruleAt, rulesFrom, RuleLies, RulesLie}
 use Rattle.depend.specs.Cycles.{wide, makesArcs}
-use Rattle.depend.proofs.Walk.{lies-on, some-on, some-end}
+use Rattle.layout.proofs.Rounds.{lies-on}
+use Rattle.depend.proofs.Walk.{some-on, some-end}
 use Rattle.depend.proofs.cycles.may_cross.Statement.{statement}
 use Rattle.depend.proofs.cycles.may_cross.Tie as tie
 

@@ -6,7 +6,8 @@ use native.Mathlib.Omega.{arith}
 use Rattle.meaning.specs.Lists.{any}
 use Rattle.layout.specs.Layout.{pastRule, rulesFrom, RuleLies, RulesLie}
 use Rattle.depend.specs.Cycles.{addsArcs}
-use Rattle.depend.proofs.Walk.{lies-on, some-on, some-end}
+use Rattle.layout.proofs.Rounds.{lies-on}
+use Rattle.depend.proofs.Walk.{some-on, some-end}
 use Rattle.depend.proofs.cycles.may_return.Statement.{statement}
 use Rattle.depend.proofs.cycles.may_return.Tie as tie
 

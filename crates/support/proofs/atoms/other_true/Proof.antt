@@ -1,23 +1,18 @@
 -- `support::atoms::other_true` meets its contract. Assumes nothing.
 use borrow.Author.Needs.{needs}
 use mathlib.Core.Path.{_≡_, refl, sym, ap, _∙_}
-use mathlib.Core.Bool.{Bool, true, false, not, _&&_}
-use mathlib.Core.List.{List}
-use Prim.Native.Nat.{ℕ, suc, _+_, _-_, _≤_, _<_}
+use mathlib.Core.Bool.{Bool, not, _&&_}
+use Prim.Native.Nat.{ℕ, _-_, _≤_}
 use native.Mathlib.Omega.{arith}
-use borrow.Author.Tests.{not-true, not-false}
 use lib.Dec.{eqb}
-use lib.IntN.{ℤ, pos, natAbs}
-use lib.ListN.{length, getD, take, drop}
-use Rattle.meaning.specs.Lists.{has}
+use lib.IntN.{pos, natAbs}
+use lib.ListN.{length, getD, drop}
 use Rattle.interpretation.specs.View.{valued, cellValue}
 use Rattle.interpretation.specs.declared.Choice.the-variants as choice
-use Rattle.interpretation.specs.declared.Value.{Value}
-use Rattle.interpretation.specs.declared.Value.the-variants.{True}
 use Rattle.layout.specs.Layout.{atoms}
 use Rattle.valuing.specs.Values.{saysTrue}
-use Rattle.support.specs.Asking.{valuesOf, sameValue, firstWith, otherTrue}
-use Rattle.support.proofs.Walks.{eqb-same, eqb-not, with-here, with-on, with-end, other-here, other-on, other-end}
+use Rattle.support.specs.Asking.{valuesOf, otherTrue}
+use Rattle.support.proofs.Walks.{other-here, other-on, other-end}
 use Rattle.support.proofs.atoms.other_true.Statement.{statement}
 use Rattle.support.proofs.atoms.other_true.Tie as tie
 use Rattle.support.proofs.atoms.other_true.Reads as reads
