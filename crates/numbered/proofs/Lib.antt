@@ -1,0 +1,2 @@
+-- What is proved of the numbers of rules. Assumes nothing.
+pub mod Numbered

@@ -1,0 +1,2 @@
+-- The numbers of rules.
+pub mod Numbered
