@@ -1,6 +1,6 @@
 -- "When an answer is an enum, a definition states this paper's number and values for each enum case" (01): the refusals' numbers and places,
 -- and what a result reports. Definitions only: to be believed.
---   numberOf, placeOf    01's table "What comes back": the columns No. and Place
+--   numberOf, placeOf    01's table "What comes back": the columns No. and Place; from 14 on the refusals that 02 adds ("place 0 unless it names another")
 --   kindOf, checkKind    the kind of a result: "answer, none, limit or refused"; of the check "yes, no or refused"
 --   choicesOf, skipsOf   what a result of solving reports: "for a refusal its number and place with counts 0; otherwise the choices and the skips"
 -- Assumes nothing.
@@ -26,6 +26,11 @@ numberOf refusal.ShortPlan = 10
 numberOf (refusal.PlanByte i) = 11
 numberOf (refusal.BadNumber k) = 12
 numberOf refusal.TooManyBytes = 13
+numberOf (refusal.OutsideSubset l) = 14
+numberOf (refusal.BeyondRange l) = 15
+numberOf refusal.ShortBuffer = 16
+numberOf refusal.NamesLost = 24
+numberOf refusal.ShortWords = 25
 
 abbrev pub placeOf : Refusal → ℕ
 placeOf refusal.TooManyWords = 0
@@ -41,6 +46,11 @@ placeOf refusal.ShortPlan = 0
 placeOf (refusal.PlanByte i) = i
 placeOf (refusal.BadNumber k) = k
 placeOf refusal.TooManyBytes = 0
+placeOf (refusal.OutsideSubset l) = l
+placeOf (refusal.BeyondRange l) = l
+placeOf refusal.ShortBuffer = 0
+placeOf refusal.NamesLost = 0
+placeOf refusal.ShortWords = 0
 
 abbrev pub kindOf : Solved → ℕ
 kindOf (solved.Answer c s) = 0

@@ -31,6 +31,16 @@ pub enum Refusal {
     BadNumber(usize),
     // 13: more than 65,536 bytes of text.
     TooManyBytes,
+    // 14: aspif: text outside the subset, its line, from 1.
+    OutsideSubset(usize),
+    // 15: aspif: a number, list or table beyond 01's ranges, its line, from 1.
+    BeyondRange(usize),
+    // 16: the lent text or byte buffer is too short for the whole text.
+    ShortBuffer,
+    // 24: going back from the stored form while some name is not empty.
+    NamesLost,
+    // 25: the word buffer is shorter than 16,384 words.
+    ShortWords,
 }
 
 // The result of solving: an answer, none or limit with the choices and the skips, or a refusal.
@@ -48,7 +58,13 @@ pub enum Checked {
     Refused(Refusal),
 }
 
-// 01's number of a refusal.
+// The result of a writer: how much it wrote, or a refusal, which writes nothing.
+pub enum Written {
+    Wrote(usize),
+    Refused(Refusal),
+}
+
+// 01's number of a refusal; from 14 on 02's.
 pub fn number(r: Refusal) -> u32
     ensures { λ n. ⌜ n ≡ numberOf r ⌝ }
 {
@@ -66,6 +82,11 @@ pub fn number(r: Refusal) -> u32
         Refusal::PlanByte(_) => 11,
         Refusal::BadNumber(_) => 12,
         Refusal::TooManyBytes => 13,
+        Refusal::OutsideSubset(_) => 14,
+        Refusal::BeyondRange(_) => 15,
+        Refusal::ShortBuffer => 16,
+        Refusal::NamesLost => 24,
+        Refusal::ShortWords => 25,
     }
 }
 
@@ -87,5 +108,10 @@ pub fn place(r: Refusal) -> usize
         Refusal::PlanByte(i) => i,
         Refusal::BadNumber(k) => k,
         Refusal::TooManyBytes => 0,
+        Refusal::OutsideSubset(l) => l,
+        Refusal::BeyondRange(l) => l,
+        Refusal::ShortBuffer => 0,
+        Refusal::NamesLost => 0,
+        Refusal::ShortWords => 0,
     }
 }
