@@ -12,8 +12,11 @@
 #ifndef SAUCEPEBBLY_H
 #define SAUCEPEBBLY_H
 
+/* Define this where size_t, int32_t, uint8_t, uint16_t and uint32_t come from elsewhere. */
+#ifndef SAUCEPEBBLY_TYPES_GIVEN
 #include <stddef.h>
 #include <stdint.h>
+#endif
 
 #ifdef __cplusplus
 extern "C" {

@@ -1,0 +1,30 @@
+#!/bin/sh
+# Tests the library that ships: builds libdock.a, looks for the back end's fault in it, and runs all tables and texts of the gate over it through C, with
+# the kit's own compiler and linker. Ends with status 0 only if every line is the expected one.
+set -eu
+cd "$(dirname "$0")/../.."
+kit=$(dirname "$(rt doc)")/..
+tools=$kit/on/x86_64/toolchain/bin
+lib=$kit/toolchain/lib
+rt staticlib dock
+library=target/staticlib/libdock.a
+if command -v objdump >/dev/null && command -v python3 >/dev/null; then
+    PYTHONDONTWRITEBYTECODE=1 python3 tools/probes.py "$library"
+    echo "dock: no probe loop behind a function's entry"
+else
+    echo "dock: not looked for probe loops, since there is no objdump or no python3"
+fi
+mkdir -p target/dock
+"$tools/clang" -std=c11 -Wall -Wextra -Werror -O2 -ffreestanding -fPIE -I include -c tools/dock/runs.c -o target/dock/runs.o
+"$tools/ld.lld" -pie -melf_x86_64 -z relro -z now -z noexecstack -dynamic-linker /lib64/ld-linux-x86-64.so.2 -o target/dock/runs \
+    "$lib/Scrt1.o" "$lib/crti.o" "$lib/crtbeginS.o" target/dock/runs.o "$library" \
+    "$lib/libc.so.6" "$lib/libc_nonshared.a" "$lib/ld-linux-x86-64.so.2" "$lib/libgcc.a" "$lib/crtendS.o" "$lib/crtn.o"
+target/dock/runs tables <crates/vectors/stdin | cmp - crates/vectors/stdout
+echo "dock: $(wc -l <crates/vectors/stdout) tables through C: as expected"
+target/dock/runs texts <crates/texts/stdin | cmp - crates/texts/stdout
+echo "dock: $(wc -l <crates/texts/stdout) texts through C: as expected"
+if command -v cc >/dev/null && command -v rustc >/dev/null; then
+    sh examples/test.sh
+else
+    echo "dock: the C and the Rust example were not run, since there is no cc or no rustc"
+fi

@@ -1,0 +1,253 @@
+/* Runs the gate's tables and texts over the compiled library: runs tables | runs texts. Input from standard input, a line for each case to standard
+ * output, as the programs that the gate runs print them. Needs no header of the C library, so that the kit's own compiler builds it. */
+#define SAUCEPEBBLY_TYPES_GIVEN
+typedef unsigned long size_t;
+typedef int int32_t;
+typedef unsigned char uint8_t;
+typedef unsigned short uint16_t;
+typedef unsigned int uint32_t;
+#include "saucepebbly.h"
+
+long read(int, void *, size_t);
+long write(int, const void *, size_t);
+
+/* ---- input and output */
+
+static uint8_t in[65536];
+static size_t in_at, in_end;
+
+static int next_byte(void) {
+    if (in_at == in_end) {
+        long n = read(0, in, sizeof in);
+        if (n <= 0)
+            return -1;
+        in_end = (size_t)n;
+        in_at = 0;
+    }
+    return in[in_at++];
+}
+
+static uint8_t out[65536];
+static size_t out_end;
+
+static void flush(void) {
+    size_t i = 0;
+    while (i < out_end) {
+        long n = write(1, out + i, out_end - i);
+        if (n <= 0)
+            break;
+        i += (size_t)n;
+    }
+    out_end = 0;
+}
+
+static void put(char c) {
+    if (out_end == sizeof out)
+        flush();
+    out[out_end++] = (uint8_t)c;
+}
+
+static void put_text(const char *s) {
+    while (*s)
+        put(*s++);
+}
+
+static void put_number(unsigned long n) {
+    char digits[20];
+    int k = 0;
+    do {
+        digits[k++] = (char)('0' + n % 10);
+        n /= 10;
+    } while (n);
+    put(' ');
+    while (k)
+        put(digits[--k]);
+}
+
+static void put_atoms(const uint8_t *plan, long bytes) {
+    for (long i = 0; i < bytes; i++)
+        if (plan[i] == 1)
+            put_number((unsigned long)i + 1);
+}
+
+/* ---- tables, as crates/vectors has them */
+
+static int32_t words[32768];
+static uint8_t plan[257];
+
+static unsigned long mixed(unsigned long sum, unsigned long x) {
+    return (sum * 33 + x + 1) % 65521;
+}
+
+/* A small number in one byte, or 255 and the four bytes of any other. */
+static int next_number(long *value) {
+    int first = next_byte();
+    if (first < 0)
+        return 0;
+    if (first < 255) {
+        *value = first - 4;
+        return 1;
+    }
+    uint32_t bits = 0;
+    for (int i = 0; i < 4; i++)
+        bits |= (uint32_t)next_byte() << (8 * i);
+    *value = (int32_t)bits;
+    return 1;
+}
+
+static void put_refusal(const uint32_t *report) {
+    put_text("refused");
+    put_number(report[0]);
+    put_number(report[1]);
+}
+
+/* How many of all plans over a few atoms are approved, and which. */
+static void put_approved(long count, long room) {
+    uint32_t report[2];
+    unsigned long found = 0, sum = 1;
+    for (unsigned long code = 0; code < 1ul << words[0]; code++) {
+        for (int i = 0; i < words[0]; i++)
+            plan[i] = code >> i & 1;
+        if (saucepebbly_approve(words, (size_t)count, plan, (size_t)room, report, 2) == SAUCEPEBBLY_YES) {
+            found++;
+            sum = mixed(sum, code);
+        }
+    }
+    put_text(" /");
+    put_number(found);
+    put_number(sum);
+}
+
+static void run_table(long count, long room) {
+    uint32_t checked[2] = {0, 0}, solved[2] = {0, 0};
+    uint32_t verdict = saucepebbly_approve(words, (size_t)count, plan, (size_t)room, checked, 2);
+    uint32_t kind = saucepebbly_solve(words, (size_t)count, 4294967295u, plan, (size_t)room, solved, 2);
+    if (kind == SAUCEPEBBLY_ANSWER) {
+        put_text("answer");
+        put_atoms(plan, room);
+    } else if (kind == SAUCEPEBBLY_REFUSED)
+        put_refusal(solved);
+    else
+        put_text(kind == SAUCEPEBBLY_NONE ? "none" : "limit");
+    unsigned long sum = 1;
+    for (long i = 0; i < room; i++)
+        sum = mixed(sum, plan[i]);
+    put_text(" /");
+    put_number(sum);
+    put_text(" / ");
+    if (verdict == SAUCEPEBBLY_REFUSED)
+        put_refusal(checked);
+    else {
+        put_text(verdict == SAUCEPEBBLY_YES ? "yes" : "no");
+        if (count > 0 && words[0] <= 6)
+            put_approved(count, room);
+    }
+    put('\n');
+}
+
+static void run_tables(void) {
+    long count, room, given, value;
+    while (next_number(&count) && next_number(&room) && next_number(&given)) {
+        for (long i = 0; i < count; i++) {
+            next_number(&value);
+            words[i] = (int32_t)value;
+        }
+        for (long i = 0; i < room; i++)
+            plan[i] = 7;
+        for (long i = 0; i < given; i++) {
+            next_number(&value);
+            plan[i] = (uint8_t)value;
+        }
+        run_table(count, room);
+    }
+}
+
+/* ---- texts, as crates/texts has them: the length in four bytes, then the bytes */
+
+static uint8_t bytes[65537];
+
+static int parts(uint8_t b) {
+    return b == ' ' || b == '\n';
+}
+
+/* The limit and the words of a text; or, returned as 12 or 13, why it has none, with the place. */
+static uint32_t read_text(size_t n, uint32_t *limit, size_t *count, uint32_t *place) {
+    size_t number = 0;
+    *count = 0;
+    *place = 0;
+    if (n > 65536)
+        return 13;
+    for (size_t i = 0;;) {
+        while (i < n && parts(bytes[i]))
+            i++;
+        if (i == n)
+            break;
+        int minus = bytes[i] == '-', digits = 0, odd = 0;
+        long value = 0;
+        for (i += (size_t)minus; i < n && !parts(bytes[i]); i++) {
+            odd |= bytes[i] < '0' || bytes[i] > '9';
+            digits = 1;
+            value = value * 10 + (bytes[i] - '0');
+            if (value > 1l << 40)
+                value = 1l << 40;
+        }
+        value = minus ? -value : value;
+        int within = number == 0 ? value >= 0 && value <= 4294967295l : value >= -2147483648l && value <= 2147483647l;
+        if (odd || !digits || !within) {
+            *place = (uint32_t)number;
+            return 12;
+        }
+        if (number == 0)
+            *limit = (uint32_t)value;
+        else
+            words[(*count)++] = (int32_t)value;
+        number++;
+    }
+    return number == 0 ? 12 : 0;
+}
+
+static void run_text(size_t n) {
+    static const char *const names[] = {"answer", "none", "limit", "refused"};
+    uint32_t report[2] = {0, 0}, limit = 0, kind = SAUCEPEBBLY_REFUSED;
+    size_t count;
+    report[0] = read_text(n, &limit, &count, &report[1]);
+    for (int i = 0; i < 256; i++)
+        plan[i] = 0;
+    if (report[0] == 0)
+        kind = saucepebbly_solve(words, count, limit, plan, 256, report, 2);
+    put_text(names[kind]);
+    put_number(report[0]);
+    put_number(report[1]);
+    if (kind == SAUCEPEBBLY_ANSWER) {
+        put(':');
+        put_atoms(plan, 256);
+    }
+    put('\n');
+}
+
+static void run_texts(void) {
+    for (;;) {
+        size_t n = 0;
+        for (int i = 0; i < 4; i++) {
+            int b = next_byte();
+            if (b < 0)
+                return;
+            n |= (size_t)b << (8 * i);
+        }
+        for (size_t i = 0; i < n; i++) {
+            int b = next_byte();
+            if (i < sizeof bytes)
+                bytes[i] = (uint8_t)b;
+        }
+        run_text(n);
+    }
+}
+
+int main(int argc, char **argv) {
+    if (argc == 2 && argv[1][0] == 't' && argv[1][1] == 'e')
+        run_texts();
+    else
+        run_tables();
+    flush();
+    return 0;
+}
