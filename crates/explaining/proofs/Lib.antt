@@ -1,0 +1,3 @@
+-- What the functions' proofs cite. Assumes nothing.
+pub mod Arrays
+pub mod Walks
