@@ -18,9 +18,9 @@ use Rattle.meaning.proofs.Tools.{eq-i, neq-i}
 use Rattle.meaning.proofs.Cond.{ifEq-yes, ifEq-no, eqCase, ltCase}
 use Rattle.foundation.specs.Walk.{atomOf, positives}
 use Rattle.rounds.specs.declared.Why.{Why}
-use Rattle.rounds.specs.Rounds.{noWhy}
+use Rattle.rounds.specs.Rounds.{noWhy, whysIn, Recorded}
 use Rattle.rounds.specs.Marks.{earlier}
-use Rattle.explaining.specs.Walk.{whysBy, roundsBy, whysIn, due}
+use Rattle.explaining.specs.Walk.{whysBy, roundsBy, due}
 
 -- ---- an atom of the arrays
 
@@ -126,22 +126,20 @@ paired-on rs ns ws i h p j l = at (eqCase j i)
         ∙ sym (ap (whyAt rs ns) e)
     at (inr n) = getD-set-other ws i j (whyAt rs ns i) noWhy n ∙ p j (omega (arith, n))
 
-pub paired-all : (rs ns : List ℕ) (ws : List Why) (i : ℕ) → length rs ≤ i → length ns ≤ i → length ws ≤ i → Paired rs ns ws i → whysIn ws ≡ whysBy rs ns
+pub paired-all : (rs ns : List ℕ) (ws : List Why) → length rs ≡ 256 → length ns ≡ 256 → length ws ≡ 256 → Paired rs ns ws 256 → Recorded ws (whysBy rs ns)
 unfolding whysIn whysBy
-paired-all rs ns ws i a b c p = fun-ext at
+paired-all rs ns ws a b c p = record { number = c; each = fun-ext at }
   where
     out : (l : List ℕ) (j : ℕ) → length l ≤ j → _≡_ {A = ℕ} (getD l j 0) 0
     out l j h = List·getD-eq-default l 0 h
 
-    past : (j : ℕ) → i ≤ j → getD ws j noWhy ≡ whyAt rs ns j
-    past j h =
-        List·getD-eq-default ws noWhy (omega arith)
-        ∙ sym (λ x. record { round = out rs j (omega arith) x; rule = out ns j (omega arith) x })
+    past : (j : ℕ) → 256 ≤ j → getD ws j noWhy ≡ whyAt rs ns j
+    past j h = List·getD-eq-default ws noWhy (omega arith) ∙ sym (λ x. record { round = out rs j (omega arith) x; rule = out ns j (omega arith) x })
 
-    pick : (j : ℕ) → (j < i) ⊎ (i ≤ j) → getD ws j noWhy ≡ whyAt rs ns j
+    pick : (j : ℕ) → (j < 256) ⊎ (256 ≤ j) → getD ws j noWhy ≡ whyAt rs ns j
     pick j (inl h) = p j h
     pick j (inr h) = past j h
 
     at : (q : ℕ) → whysIn ws q ≡ whysBy rs ns q
     at zero = refl
-    at (suc j) = pick j (ltCase j i)
+    at (suc j) = pick j (ltCase j 256)

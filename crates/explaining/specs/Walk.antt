@@ -1,7 +1,6 @@
 -- Rounds and rules as the code finds them: what each rule could add as one word, and the walk over these words for each round. Definitions only; they need
 -- not be believed: the contract of `explain` speaks of `whyOf` of crate `rounds`, and `proofs/` ties the two.
 --   whysBy rs ns     the rounds and rules that two arrays stand for, atom p's at index p - 1;  roundsBy: with the rules left out;  view: of the struct
---   whysIn ws        the same of one array of records
 --   codeBy, codesFrom   the word of a rule: 0 where it adds nothing, else the candidate that it is (crate `foundation`)
 --   due t r c w      the rule with the word c adds its atom in round r
 --   walkCodes        one round, rule by rule, from the number i on
@@ -36,10 +35,6 @@ roundsBy rs = whysBy rs []
 
 abbrev pub view : Marks → ℕ → Why
 view m = whysBy (m .rounds) (m .rules)
-
-unfoldable pub whysIn : List Why → ℕ → Why
-whysIn ws zero = noWhy
-whysIn ws (suc i) = getD ws i noWhy
 
 -- ---- the words of rules
 

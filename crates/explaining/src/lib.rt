@@ -12,9 +12,9 @@ ghost use Rattle.interpretation.specs.State.{trueAtoms, AllDefined};
 ghost use Rattle.interpretation.specs.View.{valued};
 ghost use Rattle.layout.specs.Layout.{Laid, Members, RuleLies, atoms, posAt, ruleAt, programOf};
 ghost use Rattle.foundation.specs.Walk.{couldOf, Stands};
-ghost use Rattle.rounds.specs.Rounds.{whyOf};
+ghost use Rattle.rounds.specs.Rounds.{noWhys, whyOf, Recorded};
 ghost use Rattle.rounds.specs.Marks.{earlier, marksAfter};
-ghost use Rattle.explaining.specs.Walk.{roundsBy, whysIn, view, codeBy, codesFrom, due, walkCodes, FitCode, FitCodes};
+ghost use Rattle.explaining.specs.Walk.{roundsBy, view, codeBy, codesFrom, due, walkCodes, FitCode, FitCodes};
 use foundation::Adds;
 use layout::Table;
 use rounds::Why;
@@ -156,12 +156,19 @@ pub fn mark(t: &[i32], tb: Table, values: &[u8; 256]) -> Marks
     marks
 }
 
-// The rounds and the rules side by side.
-pub fn paired(marks: Marks) -> [Why; 256]
-    ensures { λ r. ⌜ whysIn r ≡ view marks ⌝ }
+// No atom has a round or a rule.
+pub fn nothing() -> [Why; 256]
+    ensures { λ r. ⌜ Recorded r noWhys ⌝ }
 {
     let none = Why { round: 0, rule: 0 };
-    let mut whys = [none; 256];
+    [none; 256]
+}
+
+// The rounds and the rules side by side.
+pub fn paired(marks: Marks) -> [Why; 256]
+    ensures { λ r. ⌜ Recorded r (view marks) ⌝ }
+{
+    let mut whys = nothing();
     let mut i: usize = 0;
     while i < 256 {
         let round = marks.rounds[i];
@@ -175,7 +182,7 @@ pub fn paired(marks: Marks) -> [Why; 256]
 // The round and the rule of each atom, atom p's at index p - 1: those of the definition for the true atoms, and 0 and 0 for all others.
 pub fn explain(t: &[i32], tb: Table, values: &[u8; 256]) -> [Why; 256]
     requires { ⌜ Laid (now t) tb × AllDefined (tb .atoms) (valued (now values)) ⌝ }
-    ensures { λ r. ⌜ whysIn r ≡ whyOf (programOf (now (t .entry)) tb) (tb .atoms) (trueAtoms (tb .atoms) (valued (now (values .entry)))) ⌝ }
+    ensures { λ r. ⌜ Recorded r (whyOf (programOf (now (t .entry)) tb) (tb .atoms) (trueAtoms (tb .atoms) (valued (now (values .entry))))) ⌝ }
 {
     let marks = mark(t, tb, values);
     paired(marks)

@@ -5,11 +5,14 @@
 --   whyOf            the round, and "the rule is the lowest that could add the atom in that round"; "false atoms .. have 0 in both"
 --   Explains P X w   the same said of any rounds and rules w, with no computation: there is one such w for a founded X, and it is `whyOf`
 --   Shown            "each rule shown has a true body, the atom as its only true head atom, and positive body atoms of smaller rounds"
+--   Recorded ws w    an array of 256 records holds these rounds and rules, atom p's at index p - 1 (`whysIn`)
 -- Assumes nothing.
 use mathlib.Core.Path.{_≡_}
 use mathlib.Core.Logic.{_⊎_}
 use mathlib.Core.Bool.{Bool, false, cond, _&&_, _||_}
+use mathlib.Core.List.{List}
 use Prim.Native.Nat.{ℕ, zero, suc, _≤_, _<_}
+use lib.ListN.{length, getD}
 use Rattle.meaning.specs.Lists.{Is, _∈_, all, any}
 use Rattle.meaning.specs.Aggregates.{Atoms}
 use Rattle.meaning.specs.Program.{Rule, Program}
@@ -21,6 +24,10 @@ use Rattle.rounds.specs.declared.Why.{Why}
 -- round 0 and rule 0: none
 abbrev pub noWhy : Why
 noWhy = record { round = 0; rule = 0 }
+
+-- of all atoms
+abbrev pub noWhys : ℕ → Why
+noWhys p = noWhy
 
 unfoldable pub adds : Atoms → Atoms → ℕ → Rule → Bool
 adds X G p r = supports X r p && all G (r .pos)
@@ -78,3 +85,13 @@ pub record Shown (P : Program) (n : ℕ) (X : Atoms) (w : ℕ → Why) (p : ℕ)
   pub smaller : (b : ℕ) → b ∈ rule .pos → (1 ≤ w b .round) × (w b .round < w p .round)
   -- a round above 1 has a positive body atom of the round just before it
   pub justBefore : (w p .round ≡ 1) ⊎ ((b : ℕ) × (b ∈ rule .pos) × (suc (w b .round) ≡ w p .round))
+
+-- ---- the array of records
+
+unfoldable pub whysIn : List Why → ℕ → Why
+whysIn ws zero = noWhy
+whysIn ws (suc i) = getD ws i noWhy
+
+pub record Recorded (ws : List Why) (w : ℕ → Why) : Type 0 where
+  pub number : length ws ≡ 256
+  pub each : whysIn ws ≡ w

@@ -3,6 +3,7 @@ use borrow.Author.Needs.{needs}
 use mathlib.Core.Path.{_≡_, sym, ap, subst, _∙_}
 use mathlib.Core.List.{List}
 use Prim.Native.Nat.{ℕ}
+use native.Mathlib.Omega.{arith}
 use lib.IntN.{ℤ}
 use Rattle.meaning.specs.Lists.{all}
 use Rattle.layout.specs.Layout.{atoms, Members, Listed}
@@ -26,7 +27,10 @@ element-copy-out-if2 : tie.Need-element-copy-out-if2
 element-copy-out-if2 c = search needs
 
 returns-2 : tie.Need-returns-2
-returns-2 c = let s = c .before .before .before in sym (due-marked (s .args .t .now) (s .args .round) (s .args .c) (s .args .rounds .now) (c .before .before .if1 .left) (c .if2 .taken))
+returns-2 c =
+    let s = c .before .before .before in
+    let h = c .if2 .taken in
+    sym (due-marked (s .args .t .now) (s .args .round) (s .args .c) (s .args .rounds .now) (c .before .before .if1 .left) (λ z. omega (arith, h)))
 
 cast-place : tie.Need-cast-place
 cast-place c = search needs
@@ -45,9 +49,10 @@ returns-3 : tie.Need-returns-3
 returns-3 c =
     let e = c .before .before in
     let s = e .before .before .before in
+    let h = e .if2 .left in
     c .all-earlier .ensures
     ∙ ap (λ (l : List ℤ). all (earlier (roundsBy (s .args .rounds .now)) (s .args .round)) (atoms l)) (c .before .part .ensures)
-    ∙ sym (due-open (s .args .t .now) (s .args .round) (s .args .c) (s .args .rounds .now) (e .before .before .if1 .left) (e .if2 .left))
+    ∙ sym (due-open (s .args .t .now) (s .args .round) (s .args .c) (s .args .rounds .now) (e .before .before .if1 .left) (omega (arith, h)))
 
 pub is-due-spec : {M : Type 1} → statement M
 is-due-spec =

@@ -1,6 +1,6 @@
 -- `explaining::paired` meets its contract. The invariant of its loop: the records below index i are those of the two arrays. Assumes nothing.
 use borrow.Author.Needs.{needs}
-use mathlib.Core.Path.{_≡_, refl, sym, ap, _∙_}
+use mathlib.Core.Path.{_≡_, refl, sym, ap, subst, _∙_}
 use mathlib.Core.List.{List}
 use Prim.Native.Nat.{ℕ, _+_, _-_, _≤_, _<_}
 use native.Mathlib.Omega.{arith}
@@ -16,8 +16,11 @@ Inv-loop marks whys₀ i₀ whys i = (i ≤ 256) × (length whys ≡ 256) × Pai
 abbrev μ-loop : tie.MeasureT-loop
 μ-loop marks whys₀ i₀ whys i = 256 - i
 
+nothing-requires : tie.Need-nothing-requires Inv-loop μ-loop
+nothing-requires c κs = search needs
+
 loop-holds : tie.Need-loop-holds Inv-loop μ-loop
-loop-holds c = (omega arith, refl, λ j h. absurd (omega arith))
+loop-holds c = (omega arith, c .nothing .ensures .number, λ j h. absurd (omega arith))
 
 mul-round : tie.Need-mul-round Inv-loop μ-loop
 mul-round c = search needs
@@ -46,7 +49,7 @@ loop-less c = omega arith
 loop-again : tie.Need-loop-again Inv-loop μ-loop
 loop-again c =
     let b = c .before .before .before in
-    let m = b .before .args .t1 in
+    let m = b .before .before .args .t1 in
     let n = b .loop .inv .1 in (
       omega arith,
       length-set (b .loop .whys) (b .loop .i) _ ∙ n,
@@ -56,11 +59,11 @@ loop-again c =
 returns : tie.Need-returns Inv-loop μ-loop
 returns c =
     let b = c .before in
-    let m = b .before .args .t1 in
+    let m = b .before .before .args .t1 in
     let x : length (m .rounds) ≡ 256 = search needs in
     let y : length (m .rules) ≡ 256 = search needs in
-    let z = b .loop .inv .1 in
-    paired-all (m .rounds) (m .rules) (b .loop .whys) (b .loop .i) (omega arith) (omega arith) (omega arith) (b .loop .inv .2)
+    let e : b .loop .i ≡ 256 = omega (arith, b .loop .inv .0, c .loop-test .left) in
+    paired-all (m .rounds) (m .rules) (b .loop .whys) x y (b .loop .inv .1) (subst (Paired (m .rounds) (m .rules) (b .loop .whys)) e (b .loop .inv .2))
 
 pub paired-spec : {M : Type 1} → statement M
 paired-spec =
@@ -68,6 +71,7 @@ paired-spec =
     (tie.spec
     Inv-loop
     μ-loop
+    nothing-requires
     loop-holds
     mul-round
     element-copy-out-round
