@@ -19,6 +19,8 @@ use Rattle.meaning.proofs.Cond.{ifLt-yes}
 use Rattle.results.specs.declared.Refusal.{Refusal}
 use Rattle.results.specs.declared.Solved.{Solved}
 use Rattle.results.specs.declared.Solved.the-variants as solved
+use Rattle.results.specs.Results.{numberOf, placeOf, reportOf}
+use Rattle.results.proofs.Determined.{report-determines}
 use Rattle.table.specs.Contents.{Contents, program}
 use Rattle.table.specs.Grammar as grammar
 use Rattle.depend.specs.Cycles.{cycleOf}
@@ -27,10 +29,11 @@ use Rattle.depend.specs.declared.Cycle.the-variants as cycle
 use Rattle.search.specs.Search.{Result, answer, noAnswer, limit, Outcome, jump, solve}
 use Rattle.search.specs.Base.{base}
 use Rattle.search.specs.Shown.{trueList, shownResult, shown}
-use Rattle.solver.specs.Refusals.{Accepted, Refused, table}
+use Rattle.judging.specs.declared.Buffer.the-variants.{Plan}
+use Rattle.judging.specs.Refusals.{Accepted, Refused, table}
+use Rattle.judging.proofs.Judged.{plan-good, cycle-refuses, none-accepts}
 use Rattle.solver.specs.Solving.{bitOf, bytesFrom, planWith, planAfter, solvedBy, Solving}
 use Rattle.solver.specs.Approving.{planAtoms}
-use Rattle.solver.proofs.Judged.{cycle-refuses, none-accepts}
 use Rattle.cases.specs.Cases.{Case, asReported, cases, shownRefusal, shownCycle, shownContents, shownFor, shownSolved, atomsIn}
 use Rattle.cases.proofs.Table.{case-as-reported}
 
@@ -74,19 +77,19 @@ shown-by n limit k s old = refl
 -- ---- what meets the promise shows what the definitions report
 
 module _ (t : List ℤ) (lim : ℕ) (old new : List ℕ) (r : Solved) (short : length t ≤ 16384) (wide : 256 ≤ length old) (S : Solving t lim old new r) where
-  refusal-shown : (n : ℕ) (f : Refusal) → Refused t (length old) f → shownSolved n r new ≡ shownRefusal f
-  refusal-shown n f h = ap (λ (x : Solved). shownSolved n x new) (S .refused f .1 h)
+  refusal-shown : (n : ℕ) (f : Refusal) → Refused t (Plan (length old)) (numberOf f) (placeOf f) → shownSolved n r new ≡ shownRefusal f
+  refusal-shown n f h = ap (λ (x : Solved). shownSolved n x new) (report-determines r (solved.Refused f) (S .refused (numberOf f) (placeOf f) .1 h))
 
   by-cycle : (c : Contents) → grammar.contentsOf t ≡ grammar.accepted c → (k : Cycle) → cycleOf (c .atoms) (program c) ≡ k → shownSolved (c .atoms) r new ≡ shownCycle k jump lim c
-  by-cycle c e (cycle.Refused f) i = refusal-shown (c .atoms) f (cycle-refuses t (length old) short wide c e f i)
+  by-cycle c e (cycle.Refused f) i = refusal-shown (c .atoms) f (cycle-refuses t (Plan (length old)) short (plan-good (length old) wide) c e f i)
   by-cycle c e cycle.Nothing i =
-      let x = S .searching c (none-accepts t (length old) short wide c e i) in
+      let x = S .searching c (none-accepts t (Plan (length old)) short (plan-good (length old) wide) c e i) in
       let o = x .0 in
       ap (λ (y : Solved). shownSolved (c .atoms) y new) (x .2 .result) ∙ ap (shownSolved (c .atoms) (solvedBy (o .result) (o .choices) (o .skips))) (x .2 .plan)
       ∙ shown-by (c .atoms) (o .result) (o .choices) (o .skips) old ∙ sym (ap (shown (c .atoms)) (x .2 .jumping))
 
   by-contents : (x : grammar.Outcome) → grammar.contentsOf t ≡ x → shownSolved (atomsIn x) r new ≡ shownContents x jump lim
-  by-contents (grammar.refusedFor f) e = refusal-shown 0 f (table short wide e)
+  by-contents (grammar.refusedFor f) e = refusal-shown 0 f (table short (plan-good (length old) wide) f e refl refl)
   by-contents (grammar.accepted c) e = by-cycle c e (cycleOf (c .atoms) (program c)) refl
 
   pub shown-solved : shownSolved (atomsIn (grammar.contentsOf t)) r new ≡ shownFor jump t lim

@@ -5,13 +5,15 @@ use Prim.Native.Nat.{ℕ, min, _≤_}
 use native.Mathlib.Omega.{arith}
 use lib.IntN.{ℤ}
 use lib.ListN.{length}
-use Rattle.results.specs.Results.{placeOf, numberOf}
+use Rattle.results.specs.Results.{placeOf, numberOf, reportOf, checkReportOf}
 use Rattle.results.specs.declared.Refusal.{Refusal}
 use Rattle.results.specs.declared.Solved.{Solved}
 use Rattle.results.specs.declared.Solved.the-variants as solved
 use Rattle.results.specs.declared.Checked.{Checked}
 use Rattle.results.specs.declared.Checked.the-variants as checked
-use Rattle.solver.proofs.Places.{place-small, check-place-small}
+use Rattle.judging.specs.declared.Buffer.the-variants.{Plan}
+use Rattle.judging.proofs.Places.{place-small}
+use Rattle.solver.proofs.Places.{check-place-small}
 use Rattle.dock.specs.Dock.{narrow, firstOf, secondOf, reported, checkReport, Solves, Approves}
 
 kept : (n : ℕ) → n ≤ 16384 → narrow n ≡ n
@@ -20,9 +22,9 @@ kept n h = omega (arith, h)
 pub solves-place : (t : List ℤ) (lim : ℕ) (old new report told : List ℕ) (k : ℕ) (s : Solves t lim old new report told k) (f : Refusal) → s .result ≡ solved.Refused f
     → told ≡ reported (numberOf f) (placeOf f) report
 solves-place t lim old new report told k s f e =
-    s .report ∙ ap (λ (r : Solved). reported (firstOf r) (secondOf r) report) e ∙ ap (λ (n : ℕ). reported (numberOf f) n report) (kept (placeOf f) (place-small t (length old) f (s .solving .refused f .0 e)))
+    s .report ∙ ap (λ (r : Solved). reported (firstOf r) (secondOf r) report) e ∙ ap (λ (n : ℕ). reported (numberOf f) n report) (kept (placeOf f) (place-small t (Plan (length old)) (numberOf f) (placeOf f) (s .solving .refused (numberOf f) (placeOf f) .0 (ap reportOf e))))
 
 pub approves-place : (t : List ℤ) (plan report told : List ℕ) (k : ℕ) (s : Approves t plan report told k) (f : Refusal) → s .result ≡ checked.Refused f
     → told ≡ reported (numberOf f) (placeOf f) report
 approves-place t plan report told k s f e =
-    s .report ∙ ap (λ (r : Checked). checkReport r report) e ∙ ap (λ (n : ℕ). reported (numberOf f) n report) (kept (placeOf f) (check-place-small t plan f (s .approving .refused f .0 e)))
+    s .report ∙ ap (λ (r : Checked). checkReport r report) e ∙ ap (λ (n : ℕ). reported (numberOf f) n report) (kept (placeOf f) (check-place-small t plan (numberOf f) (placeOf f) (s .approving .refused (numberOf f) (placeOf f) .0 (ap checkReportOf e))))

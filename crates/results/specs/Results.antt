@@ -1,8 +1,9 @@
 -- "When an answer is an enum, a definition states this paper's number and values for each enum case" (01): the refusals' numbers and places,
 -- and what a result reports. Definitions only: to be believed.
 --   numberOf, placeOf    01's table "What comes back": the columns No. and Place; from 14 on the refusals that 02 adds ("place 0 unless it names another")
---   kindOf, checkKind    the kind of a result: "answer, none, limit or refused"; of the check "yes, no or refused"
---   choicesOf, skipsOf   what a result of solving reports: "for a refusal its number and place with counts 0; otherwise the choices and the skips"
+--   reportOf             what each result of solving says; refusalReport n i: "for a refusal its number and place with counts 0"
+--   checkReportOf        what each result of the check says; refusalCheck n i: "refused with number and place"
+--   kindOf, choicesOf, skipsOf, checkKind   parts of these
 -- Assumes nothing.
 use Prim.Native.Nat.{ℕ}
 use Rattle.results.specs.declared.Refusal.{Refusal}
@@ -52,25 +53,50 @@ placeOf refusal.ShortBuffer = 0
 placeOf refusal.NamesLost = 0
 placeOf refusal.ShortWords = 0
 
-abbrev pub kindOf : Solved → ℕ
-kindOf (solved.Answer c s) = 0
-kindOf (solved.Nothing c s) = 1
-kindOf (solved.Limit c s) = 2
-kindOf (solved.Refused f) = 3
+-- ---- what a result of solving says: "for a refusal its number and place with counts 0; otherwise the choices and the skips"
 
-abbrev pub checkKind : Checked → ℕ
-checkKind checked.Yes = 0
-checkKind checked.No = 1
-checkKind (checked.Refused f) = 3
+-- the kind is 0 answer, 1 none, 2 limit, 3 refused; number and place are 0 where nothing is refused
+pub record Report : Type 0 where
+  pub kind : ℕ
+  pub number : ℕ
+  pub place : ℕ
+  pub choices : ℕ
+  pub skips : ℕ
+
+abbrev pub reportOf : Solved → Report
+reportOf (solved.Answer c s) = record { kind = 0; number = 0; place = 0; choices = c; skips = s }
+reportOf (solved.Nothing c s) = record { kind = 1; number = 0; place = 0; choices = c; skips = s }
+reportOf (solved.Limit c s) = record { kind = 2; number = 0; place = 0; choices = c; skips = s }
+reportOf (solved.Refused f) = record { kind = 3; number = numberOf f; place = placeOf f; choices = 0; skips = 0 }
+
+-- refused with this number and place
+abbrev pub refusalReport : ℕ → ℕ → Report
+refusalReport n i = record { kind = 3; number = n; place = i; choices = 0; skips = 0 }
+
+abbrev pub kindOf : Solved → ℕ
+kindOf r = reportOf r .kind
 
 abbrev pub choicesOf : Solved → ℕ
-choicesOf (solved.Answer c s) = c
-choicesOf (solved.Nothing c s) = c
-choicesOf (solved.Limit c s) = c
-choicesOf (solved.Refused r) = 0
+choicesOf r = reportOf r .choices
 
 abbrev pub skipsOf : Solved → ℕ
-skipsOf (solved.Answer c s) = s
-skipsOf (solved.Nothing c s) = s
-skipsOf (solved.Limit c s) = s
-skipsOf (solved.Refused r) = 0
+skipsOf r = reportOf r .skips
+
+-- ---- what the check says: "yes, no or refused with number and place"
+
+-- the kind is 0 yes, 1 no, 3 refused
+pub record CheckReport : Type 0 where
+  pub kind : ℕ
+  pub number : ℕ
+  pub place : ℕ
+
+abbrev pub checkReportOf : Checked → CheckReport
+checkReportOf checked.Yes = record { kind = 0; number = 0; place = 0 }
+checkReportOf checked.No = record { kind = 1; number = 0; place = 0 }
+checkReportOf (checked.Refused f) = record { kind = 3; number = numberOf f; place = placeOf f }
+
+abbrev pub refusalCheck : ℕ → ℕ → CheckReport
+refusalCheck n i = record { kind = 3; number = n; place = i }
+
+abbrev pub checkKind : Checked → ℕ
+checkKind r = checkReportOf r .kind

@@ -22,13 +22,17 @@ use Rattle.results.specs.declared.Refusal.{Refusal}
 use Rattle.results.specs.declared.Refusal.the-variants as refusal
 use Rattle.results.specs.declared.Checked.{Checked}
 use Rattle.results.specs.declared.Checked.the-variants as checked
+use Rattle.results.specs.Results.{numberOf, placeOf, CheckReport, checkReportOf, refusalCheck}
+use Rattle.results.proofs.Determined.{check-refusal}
 use Rattle.table.specs.Contents.{Contents, program}
-use Rattle.solver.specs.Refusals.{Accepted, Refused, Bit, BadByte}
-use Rattle.solver.specs.Approving.{planAtoms, CheckRefused, before, byte, Bits, Approving}
+use Rattle.judging.specs.declared.Buffer.{Buffer}
+use Rattle.judging.specs.declared.Buffer.the-variants.{Plan}
+use Rattle.judging.specs.Refusals.{Accepted, Refused}
+use Rattle.judging.proofs.Refusals.{accepted-unique, refused-not-accepted, refused-unique}
+use Rattle.solver.specs.Approving.{planAtoms, CheckRefused, before, byte, Bits, BadByte, Approving}
 use Rattle.solver.specs.Plans.{badFrom, checkedBy}
 use Rattle.solver.specs.declared.plans.Offer.{Offer}
 use Rattle.solver.specs.declared.plans.Offer.the-variants as offer
-use Rattle.solver.proofs.Refusals.{accepted-unique, refused-not-accepted, refused-unique}
 use Rattle.solver.proofs.Offered.{bad-byte, good-bits}
 
 -- ---- a plan's atoms are atoms of 1 to n
@@ -55,9 +59,6 @@ module _ (n : ℕ) (P : Program) (A : AtomsIn n P) (noHead : Free HeadCycle P) (
 
 -- ---- refusals of the check
 
-same-refused : {r : Checked} {f g : Refusal} → r ≡ checked.Refused f → r ≡ checked.Refused g → f ≡ g
-same-refused e h = cc
-
 bad-unique : (n : ℕ) (plan : List ℕ) (i j : ℕ) → BadByte n plan i → BadByte n plan j → i ≡ j
 bad-unique n plan i j a b = at (ltCase i j) (ltCase j i)
   where
@@ -67,26 +68,43 @@ bad-unique n plan i j a b = at (ltCase i j) (ltCase j i)
     at (inr h) (inr l) = omega arith
 
 module _ (t : List ℤ) (plan : List ℕ) where
-  pub check-unique : (f g : Refusal) → CheckRefused t plan f → CheckRefused t plan g → f ≡ g
-  check-unique f g (before a) (before b) = refused-unique t (length plan) f g a b
-  check-unique f g (before a) (byte c b i h e) = absurd (refused-not-accepted t (length plan) f c a b)
-  check-unique f g (byte c a i h e) (before b) = absurd (refused-not-accepted t (length plan) g c b a)
-  check-unique f g (byte c a i h e) (byte d b j k w) =
-      e ∙ ap refusal.PlanByte (bad-unique (c .atoms) plan i j h (subst (λ (x : Contents). BadByte (x .atoms) plan j) (accepted-unique t (length plan) d c b a) k)) ∙ sym w
+  abbrev room : Buffer
+  room = Plan (length plan)
+
+  pub check-unique : (n i m j : ℕ) → CheckRefused t plan n i → CheckRefused t plan m j → (n ≡ m) × (i ≡ j)
+  check-unique n i m j (before a) (before b) = refused-unique t room n i m j a b
+  check-unique n i m j (before a) (byte c b h e) = absurd (refused-not-accepted t room n i c a b)
+  check-unique n i m j (byte c a h e) (before b) = absurd (refused-not-accepted t room m j c b a)
+  check-unique n i m j (byte c a h e) (byte d b k w) =
+      (e ∙ sym w, bad-unique (c .atoms) plan i j h (subst (λ (x : Contents). BadByte (x .atoms) plan j) (accepted-unique t room d c b a) k))
 
   -- an accepted table whose bytes are good is not refused
-  pub good-not-refused : (c : Contents) → Accepted t (length plan) c → Bits (c .atoms) plan → (f : Refusal) → CheckRefused t plan f → ⊥
-  good-not-refused c a b f (before h) = refused-not-accepted t (length plan) f c h a
-  good-not-refused c a b f (byte d e i h w) = let k = subst (λ (x : Contents). BadByte (x .atoms) plan i) (accepted-unique t (length plan) d c e a) h in k .bad (b i (k .inside))
+  pub good-not-refused : (c : Contents) → Accepted t room c → Bits (c .atoms) plan → (n i : ℕ) → CheckRefused t plan n i → ⊥
+  good-not-refused c a b n i (before h) = refused-not-accepted t room n i c h a
+  good-not-refused c a b n i (byte d e h w) = let k = subst (λ (x : Contents). BadByte (x .atoms) plan i) (accepted-unique t room d c e a) h in k .bad (b i (k .inside))
 
-  pub approving-refused : (r : Checked) (f : Refusal) → CheckRefused t plan f → r ≡ checked.Refused f → Approving t plan r
-  approving-refused r f h e = record {
-    refused = λ g. (λ i. subst (CheckRefused t plan) (same-refused e i) h, λ i. e ∙ ap checked.Refused (check-unique f g h i));
-    yes = λ c a b. absurd (good-not-refused c a b f h);
-    no = λ c a b. absurd (good-not-refused c a b f h);
-  }
+  module _ (r : Checked) (f : Refusal) (h : CheckRefused t plan (numberOf f) (placeOf f)) (e : r ≡ checked.Refused f) where
+    said : checkReportOf r ≡ refusalCheck (numberOf f) (placeOf f)
+    said = ap checkReportOf e
 
-  module _ (c : Contents) (a : Accepted t (length plan) c) (A : AtomsIn (c .atoms) (program c)) where
+    row : (n i : ℕ) → checkReportOf r ≡ refusalCheck n i → CheckRefused t plan n i
+    row n i k =
+        let u : refusalCheck (numberOf f) (placeOf f) ≡ refusalCheck n i = sym said ∙ k in
+        subst (λ (x : CheckReport). CheckRefused t plan (x .number) (x .place)) u h
+
+    back : (n i : ℕ) → CheckRefused t plan n i → checkReportOf r ≡ refusalCheck n i
+    back n i k =
+        let u = check-unique (numberOf f) (placeOf f) n i h k in
+        said ∙ ap (λ (m : ℕ). refusalCheck m (placeOf f)) (u .0) ∙ ap (refusalCheck n) (u .1)
+
+    pub approving-refused : Approving t plan r
+    approving-refused = record {
+      refused = λ n i. (row n i, back n i);
+      yes = λ c a b. absurd (good-not-refused c a b (numberOf f) (placeOf f) h);
+      no = λ c a b. absurd (good-not-refused c a b (numberOf f) (placeOf f) h);
+    }
+
+  module _ (c : Contents) (a : Accepted t room c) (A : AtomsIn (c .atoms) (program c)) where
     abbrev Answers : Type 0
     Answers = AnswerSet (program c) (planAtoms (c .atoms) plan)
 
@@ -122,9 +140,9 @@ module _ (t : List ℤ) (plan : List ℕ) where
 
     approves : (r : Checked) → Bits (c .atoms) plan → Judges r → Approving t plan r
     approves r bits j = record {
-      refused = λ f. (λ i. absurd (j .told f i), λ h. absurd (good-not-refused c a bits f h));
-      yes = λ d b k. subst (λ (x : Contents). (r ≡ checked.Yes) ↔ AnswerSet (program x) (planAtoms (x .atoms) plan)) (accepted-unique t (length plan) c d a b) (j .yes);
-      no = λ d b k. subst (λ (x : Contents). (r ≡ checked.No) ↔ (AnswerSet (program x) (planAtoms (x .atoms) plan) → ⊥)) (accepted-unique t (length plan) c d a b) (j .no);
+      refused = λ n i. (λ h. let w = check-refusal r n i h in absurd (j .told (w .0) (w .1)), λ h. absurd (good-not-refused c a bits n i h));
+      yes = λ d b k. subst (λ (x : Contents). (r ≡ checked.Yes) ↔ AnswerSet (program x) (planAtoms (x .atoms) plan)) (accepted-unique t room c d a b) (j .yes);
+      no = λ d b k. subst (λ (x : Contents). (r ≡ checked.No) ↔ (AnswerSet (program x) (planAtoms (x .atoms) plan) → ⊥)) (accepted-unique t room c d a b) (j .no);
     }
 
     pub approving-accepted : (r : Checked)
@@ -135,5 +153,5 @@ module _ (t : List ℤ) (plan : List ℕ) where
         by o i = e ∙ ap (λ (x : Offer). checkedBy x (model (program c) (planAtoms (c .atoms) plan)) (founded (program c) (c .atoms) (planAtoms (c .atoms) plan))) i
 
         at : (o : Offer) → badFrom plan 0 (c .atoms) ≡ o → Approving t plan r
-        at (offer.Bad j) i = approving-refused r (refusal.PlanByte j) (byte c a j (bad-byte plan (c .atoms) j i) refl) (by (offer.Bad j) i)
+        at (offer.Bad j) i = approving-refused r (refusal.PlanByte j) (byte c a (bad-byte plan (c .atoms) j i) refl) (by (offer.Bad j) i)
         at offer.Good i = approves r (good-bits plan (c .atoms) i) (judges r _ _ refl refl (by offer.Good i))

@@ -10,34 +10,48 @@ use Rattle.meaning.specs.Program.{AtomsIn}
 use Rattle.results.specs.declared.Refusal.{Refusal}
 use Rattle.results.specs.declared.Solved.{Solved}
 use Rattle.results.specs.declared.Solved.the-variants as solved
+use Rattle.results.specs.Results.{numberOf, placeOf, Report, reportOf, refusalReport}
 use Rattle.search.specs.Search.{Outcome, jump, solve}
 use Rattle.search.specs.Base.{base}
 use Rattle.table.specs.Contents.{Contents, program}
-use Rattle.solver.specs.Refusals.{Accepted, Refused}
+use Rattle.judging.specs.declared.Buffer.the-variants.{Plan}
+use Rattle.judging.specs.Refusals.{Accepted, Refused}
+use Rattle.judging.proofs.Refusals.{accepted-unique, refused-not-accepted, refused-unique}
 use Rattle.solver.specs.Solving.{planAfter, solvedBy, Meaning, Searching, Solving}
-use Rattle.solver.proofs.Refusals.{accepted-unique, refused-not-accepted, refused-unique}
 use Rattle.solver.proofs.Solved.{means, searches}
 
-same-refused : {r : Solved} {f g : Refusal} → r ≡ solved.Refused f → r ≡ solved.Refused g → f ≡ g
-same-refused e h = cc
+module _ (t : List ℤ) (lim : ℕ) (old new : List ℕ) (r : Solved) (f : Refusal) (h : Refused t (Plan (length old)) (numberOf f) (placeOf f)) (e : r ≡ solved.Refused f) where
+  told : reportOf r ≡ refusalReport (numberOf f) (placeOf f)
+  told = ap reportOf e
 
-pub solving-refused : (t : List ℤ) (lim : ℕ) (old new : List ℕ) (r : Solved) (f : Refusal) → Refused t (length old) f → r ≡ solved.Refused f → new ≡ old → Solving t lim old new r
-solving-refused t lim old new r f h e k = record {
-  refused = λ g. (λ i. subst (Refused t (length old)) (same-refused e i) h, λ i. e ∙ ap solved.Refused (refused-unique t (length old) f g h i));
-  untouched = λ g i. k;
-  meaning = λ c a. absurd (refused-not-accepted t (length old) f c h a);
-  searching = λ c a. absurd (refused-not-accepted t (length old) f c h a);
-}
+  -- the number and the place that are told are those of the table's row
+  row : (n i : ℕ) → reportOf r ≡ refusalReport n i → Refused t (Plan (length old)) n i
+  row n i k =
+      let u : refusalReport (numberOf f) (placeOf f) ≡ refusalReport n i = sym told ∙ k in
+      subst (λ (x : Report). Refused t (Plan (length old)) (x .number) (x .place)) u h
 
-pub solving-accepted : (t : List ℤ) (lim : ℕ) (old new : List ℕ) (r : Solved) (c : Contents) → Accepted t (length old) c → AtomsIn (c .atoms) (program c)
+  back : (n i : ℕ) → Refused t (Plan (length old)) n i → reportOf r ≡ refusalReport n i
+  back n i k =
+      let u = refused-unique t (Plan (length old)) (numberOf f) (placeOf f) n i h k in
+      told ∙ ap (λ (m : ℕ). refusalReport m (placeOf f)) (u .0) ∙ ap (refusalReport n) (u .1)
+
+  pub solving-refused : new ≡ old → Solving t lim old new r
+  solving-refused k = record {
+    refused = λ n i. (row n i, back n i);
+    untouched = λ n i j. k;
+    meaning = λ c a. absurd (refused-not-accepted t (Plan (length old)) (numberOf f) (placeOf f) c h a);
+    searching = λ c a. absurd (refused-not-accepted t (Plan (length old)) (numberOf f) (placeOf f) c h a);
+  }
+
+pub solving-accepted : (t : List ℤ) (lim : ℕ) (old new : List ℕ) (r : Solved) (c : Contents) → Accepted t (Plan (length old)) c → AtomsIn (c .atoms) (program c)
     → (o : Outcome) → solve (base (program c) (c .atoms)) jump lim ≡ some o → r ≡ solvedBy (o .result) (o .choices) (o .skips) → new ≡ planAfter (c .atoms) (o .result) old
     → Solving t lim old new r
 solving-accepted t lim old new r c a A o e told kept =
     let m = means c A (a .noHead) (a .noAggregate) lim o e old new r told kept in
     let s = searches c A (a .noHead) (a .noAggregate) lim o e old new r told kept in
     record {
-      refused = λ f. (λ i. absurd (m .taken f i), λ h. absurd (refused-not-accepted t (length old) f c h a));
-      untouched = λ f i. absurd (m .taken f i);
-      meaning = λ d b. subst (λ (x : Contents). Meaning x lim old new r) (accepted-unique t (length old) c d a b) m;
-      searching = λ d b. subst (λ (x : Contents). (o : Outcome) × (p : Outcome) × Searching x lim old new r o p) (accepted-unique t (length old) c d a b) s;
+      refused = λ n i. (λ h. absurd (m .taken n i h), λ h. absurd (refused-not-accepted t (Plan (length old)) n i c h a));
+      untouched = λ n i h. absurd (m .taken n i h);
+      meaning = λ d b. subst (λ (x : Contents). Meaning x lim old new r) (accepted-unique t (Plan (length old)) c d a b) m;
+      searching = λ d b. subst (λ (x : Contents). (o : Outcome) × (p : Outcome) × Searching x lim old new r o p) (accepted-unique t (Plan (length old)) c d a b) s;
     }

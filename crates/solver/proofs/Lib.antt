@@ -1,9 +1,7 @@
 -- What is proved of the public functions. `Unique` is the last word: each promise has one answer only; `Places`: the place of a refusal is small. Assumes nothing.
-pub mod Refusals
 pub mod Solved
 pub mod Entry
 pub mod Bytes
-pub mod Judged
 pub mod Offered
 pub mod Approved
 pub mod Values

@@ -14,8 +14,7 @@ use Rattle.meaning.proofs.Cond.{ifLt-yes, ifLt-no, ltCase}
 use Rattle.interpretation.specs.State.{Cell, defined, truthOf, trueAtoms, Defined, AllDefined}
 use Rattle.interpretation.specs.View.{cellBy, byteOf, valued}
 use Rattle.interpretation.proofs.Laws.{cells-suc, valued-at}
-use Rattle.solver.specs.Refusals.{Bit, zero as is-zero, one as is-one, BadByte}
-use Rattle.solver.specs.Approving.{planAtoms, Bits}
+use Rattle.solver.specs.Approving.{planAtoms, Bit, isZero, isOne, Bits, BadByte}
 use Rattle.solver.specs.Plans.{badOr, badFrom, Offers}
 use Rattle.solver.specs.declared.plans.Offer.{Offer}
 use Rattle.solver.specs.declared.plans.Offer.the-variants as offer
@@ -43,13 +42,13 @@ bad-later plan i (suc k) h b =
 -- ---- what it says
 
 bit-of : (b : ℕ) → b ≤ 1 → Bit b
-bit-of zero h = is-zero refl
-bit-of (suc zero) h = is-one refl
+bit-of zero h = isZero refl
+bit-of (suc zero) h = isOne refl
 bit-of (suc (suc b)) h = absurd (omega arith)
 
 bit-small : (b : ℕ) → Bit b → 1 < b → ⊥
-bit-small b (is-zero e) h = omega arith
-bit-small b (is-one e) h = omega arith
+bit-small b (isZero e) h = omega arith
+bit-small b (isOne e) h = omega arith
 
 -- what is said where all bytes before i are 0 or 1
 Says : List ℕ → ℕ → Offer → Type 0

@@ -11,10 +11,9 @@ use Rattle.meaning.specs.Program.{AtomsIn}
 use Rattle.meaning.specs.Aggregates.{Atoms}
 use Rattle.meaning.specs.Answers.{AnswerSet, First}
 use Rattle.meaning.specs.Dependency.{HeadCycle, AggregateCycle, Free}
-use Rattle.results.specs.declared.Refusal.{Refusal}
 use Rattle.results.specs.declared.Solved.{Solved}
 use Rattle.results.specs.declared.Solved.the-variants as solved
-use Rattle.results.specs.Results.{choicesOf, skipsOf}
+use Rattle.results.specs.Results.{Report, choicesOf, skipsOf, reportOf, refusalReport}
 use Rattle.search.specs.Search.{Problem, Result, answer, noAnswer, limit, Branch, Outcome, jump, plain, solve}
 use Rattle.search.specs.Laws.{Dead}
 use Rattle.search.specs.Base.{base}
@@ -66,10 +65,14 @@ module _ (c : Contents) (A : AtomsIn (c .atoms) (program c)) (noHead : Free Head
   found X a n noAnswer i = absurd (theorems.none-means-none (c .atoms) (program c) A noHead noAggregate lim jump o e i X a)
   found X a n limit i = absurd (n (o .choices) (o .skips) (told-as limit i))
 
-  taken : (f : Refusal) → r ≡ solved.Refused f → (x : Result) → o .result ≡ x → ⊥
-  taken f h (answer X) i = let u = told-as (answer X) i in let z : _≡_ {A = ℕ} 0 1 = cc in omega arith
-  taken f h noAnswer i = let u = told-as noAnswer i in let z : _≡_ {A = ℕ} 0 1 = cc in omega arith
-  taken f h limit i = let u = told-as limit i in let z : _≡_ {A = ℕ} 0 1 = cc in omega arith
+  -- what is refused has the kind of a refusal
+  kind-as : (n k : ℕ) → reportOf r ≡ refusalReport n k → (x : Result) → o .result ≡ x → 3 ≡ reportOf (solvedBy x (o .choices) (o .skips)) .kind
+  kind-as n k h x i = sym (ap (λ (y : Report). y .kind) h) ∙ ap (λ (y : Solved). reportOf y .kind) (told-as x i)
+
+  taken : (n k : ℕ) → reportOf r ≡ refusalReport n k → (x : Result) → o .result ≡ x → ⊥
+  taken n k h (answer X) i = let z = kind-as n k h (answer X) i in omega arith
+  taken n k h noAnswer i = let z = kind-as n k h noAnswer i in omega arith
+  taken n k h limit i = let z = kind-as n k h limit i in omega arith
 
   pub means : Meaning c lim old new r
   means = record {
@@ -77,7 +80,7 @@ module _ (c : Contents) (A : AtomsIn (c .atoms) (program c)) (noHead : Free Head
     none = λ k s h. nothing k s h (o .result) refl;
     limited = λ k s h. limited k s h (o .result) refl;
     found = λ X a n. found X a n (o .result) refl;
-    taken = λ f h. taken f h (o .result) refl;
+    taken = λ n k h. taken n k h (o .result) refl;
   }
 
   pub searches : (o : Outcome) × (p : Outcome) × Searching c lim old new r o p

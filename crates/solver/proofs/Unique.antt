@@ -18,28 +18,28 @@ use Rattle.meaning.proofs.Tools.{clash}
 use Rattle.meaning.proofs.Cond.{some-inj}
 use Rattle.meaning.proofs.Order.{first-unique}
 use Rattle.results.specs.declared.Refusal.{Refusal}
-use Rattle.results.specs.declared.Refusal.the-variants as refusal
 use Rattle.results.specs.declared.Checked.{Checked}
-use Rattle.results.specs.Results.{kindOf}
+use Rattle.results.specs.Results.{numberOf, placeOf, kindOf, reportOf, refusalReport}
+use Rattle.results.proofs.Determined.{report-determines, check-determines}
 use Rattle.results.specs.declared.Solved.{Solved}
 use Rattle.results.specs.declared.Solved.the-variants as solved
 use Rattle.search.specs.Search.{Outcome}
 use Rattle.table.specs.Contents.{Contents, program}
-use Rattle.solver.specs.Refusals.{Accepted, Refused}
-use Rattle.solver.specs.Refusals.{BadByte}
-use Rattle.solver.specs.Approving.{planAtoms, CheckRefused, before, byte, Bits, Approving}
-use Rattle.solver.proofs.Judged.{Decided, decided}
+use Rattle.judging.specs.declared.Buffer.the-variants.{Plan}
+use Rattle.judging.specs.Refusals.{Accepted, Refused}
+use Rattle.judging.proofs.Judged.{Decided, decided}
+use Rattle.solver.specs.Approving.{planAtoms, CheckRefused, before, byte, Bits, BadByte, Approving}
 use Rattle.solver.proofs.Offered.{bad-or-good}
 use Rattle.solver.proofs.Approved.{plan-range, tested-answer, answer-tested}
 use Rattle.table.proofs.Accepted.{accepted-atoms}
 use Rattle.solver.specs.Solving.{planWith, planAfter, solvedBy, Meaning, Searching, Solving}
 
 module _ (t : List ℤ) (lim : ℕ) (old : List ℕ) where
-  unique-by : Decided t (length old) → (new new′ : List ℕ) (r r′ : Solved) → Solving t lim old new r → Solving t lim old new′ r′ → (r ≡ r′) × (new ≡ new′)
+  unique-by : Decided t (Plan (length old)) → (new new′ : List ℕ) (r r′ : Solved) → Solving t lim old new r → Solving t lim old new′ r′ → (r ≡ r′) × (new ≡ new′)
   unique-by (inl (f, h)) new new′ r r′ a b =
-      let e = a .refused f .1 h in
-      let i = b .refused f .1 h in
-      (e ∙ sym i, a .untouched f e ∙ sym (b .untouched f i))
+      let e = a .refused (numberOf f) (placeOf f) .1 h in
+      let i = b .refused (numberOf f) (placeOf f) .1 h in
+      (report-determines r r′ (e ∙ sym i), a .untouched (numberOf f) (placeOf f) e ∙ sym (b .untouched (numberOf f) (placeOf f) i))
   unique-by (inr (c, h)) new new′ r r′ a b =
       let x = a .searching c h in
       let y = b .searching c h in
@@ -49,7 +49,7 @@ module _ (t : List ℤ) (lim : ℕ) (old : List ℕ) where
       )
 
   pub solving-unique : (new new′ : List ℕ) (r r′ : Solved) → Solving t lim old new r → Solving t lim old new′ r′ → (r ≡ r′) × (new ≡ new′)
-  solving-unique = unique-by (decided t (length old))
+  solving-unique = unique-by (decided t (Plan (length old)))
 
 -- ---- from the meaning alone
 
@@ -73,20 +73,20 @@ module _ (c : Contents) (lim : ℕ) (old : List ℕ) where
   meaning-unique new new′ (solved.Limit k s) r′ a b n m = absurd (n k s refl)
   meaning-unique new new′ (solved.Answer k s) (solved.Limit k′ s′) a b n m = absurd (m k′ s′ refl)
   meaning-unique new new′ (solved.Nothing k s) (solved.Limit k′ s′) a b n m = absurd (m k′ s′ refl)
-  meaning-unique new new′ (solved.Refused f) r′ a b n m = absurd (a .taken f refl)
-  meaning-unique new new′ (solved.Answer k s) (solved.Refused f) a b n m = absurd (b .taken f refl)
-  meaning-unique new new′ (solved.Nothing k s) (solved.Refused f) a b n m = absurd (b .taken f refl)
+  meaning-unique new new′ (solved.Refused f) r′ a b n m = absurd (a .taken (numberOf f) (placeOf f) refl)
+  meaning-unique new new′ (solved.Answer k s) (solved.Refused f) a b n m = absurd (b .taken (numberOf f) (placeOf f) refl)
+  meaning-unique new new′ (solved.Nothing k s) (solved.Refused f) a b n m = absurd (b .taken (numberOf f) (placeOf f) refl)
 
 -- ---- of the check
 
 module _ (t : List ℤ) (plan : List ℕ) where
   pub approving-unique : (r r′ : Checked) → Approving t plan r → Approving t plan r′ → r ≡ r′
-  approving-unique r r′ a b = by-table (decided t (length plan))
+  approving-unique r r′ a b = by-table (decided t (Plan (length plan)))
     where
-      refused : (f : Refusal) → CheckRefused t plan f → r ≡ r′
-      refused f h = a .refused f .1 h ∙ sym (b .refused f .1 h)
+      refused : (n i : ℕ) → CheckRefused t plan n i → r ≡ r′
+      refused n i h = check-determines r r′ (a .refused n i .1 h ∙ sym (b .refused n i .1 h))
 
-      by-plan : (c : Contents) → Accepted t (length plan) c → Bits (c .atoms) plan → (m f : Bool) → model (program c) (planAtoms (c .atoms) plan) ≡ m → founded (program c) (c .atoms) (planAtoms (c .atoms) plan) ≡ f → r ≡ r′
+      by-plan : (c : Contents) → Accepted t (Plan (length plan)) c → Bits (c .atoms) plan → (m f : Bool) → model (program c) (planAtoms (c .atoms) plan) ≡ m → founded (program c) (c .atoms) (planAtoms (c .atoms) plan) ≡ f → r ≡ r′
       by-plan c h k true true m f =
           let x = tested-answer (c .atoms) (program c) (accepted-atoms t c (h .holds)) (h .noHead) (h .noAggregate) (planAtoms (c .atoms) plan) (plan-range (c .atoms) plan) m f in
           a .yes c h k .1 x ∙ sym (b .yes c h k .1 x)
@@ -97,10 +97,10 @@ module _ (t : List ℤ) (plan : List ℕ) where
           let x : AnswerSet (program c) (planAtoms (c .atoms) plan) → ⊥ = λ y. clash (y .isModel) m in
           a .no c h k .1 x ∙ sym (b .no c h k .1 x)
 
-      by-bytes : (c : Contents) → Accepted t (length plan) c → ((i : ℕ) × BadByte (c .atoms) plan i) ⊎ Bits (c .atoms) plan → r ≡ r′
-      by-bytes c h (inl (i, k)) = refused (refusal.PlanByte i) (byte c h i k refl)
+      by-bytes : (c : Contents) → Accepted t (Plan (length plan)) c → ((i : ℕ) × BadByte (c .atoms) plan i) ⊎ Bits (c .atoms) plan → r ≡ r′
+      by-bytes c h (inl (i, k)) = refused 11 i (byte c h k refl)
       by-bytes c h (inr k) = by-plan c h k (model (program c) (planAtoms (c .atoms) plan)) (founded (program c) (c .atoms) (planAtoms (c .atoms) plan)) refl refl
 
-      by-table : Decided t (length plan) → r ≡ r′
-      by-table (inl (f, h)) = refused f (before h)
+      by-table : Decided t (Plan (length plan)) → r ≡ r′
+      by-table (inl (f, h)) = refused (numberOf f) (placeOf f) (before h)
       by-table (inr (c, h)) = by-bytes c h (bad-or-good plan (c .atoms))

@@ -16,15 +16,15 @@ use lib.ListN.{length, drop}
 use Rattle.meaning.specs.Lists.{_∈_}
 use Rattle.meaning.specs.Aggregates.{Atoms}
 use Rattle.meaning.specs.Answers.{AnswerSet, First}
-use Rattle.results.specs.declared.Refusal.{Refusal}
 use Rattle.results.specs.declared.Solved.{Solved}
 use Rattle.results.specs.declared.Solved.the-variants as solved
-use Rattle.results.specs.Results.{choicesOf, skipsOf}
+use Rattle.results.specs.Results.{choicesOf, skipsOf, reportOf, refusalReport}
 use Rattle.search.specs.Search.{Result, answer, noAnswer, limit, Branch, Outcome, jump, plain, solve}
 use Rattle.search.specs.Laws.{Dead}
 use Rattle.search.specs.Base.{base}
 use Rattle.table.specs.Contents.{Contents, program}
-use Rattle.solver.specs.Refusals.{Accepted, Refused}
+use Rattle.judging.specs.declared.Buffer.the-variants.{Plan}
+use Rattle.judging.specs.Refusals.{Accepted, Refused}
 
 -- ---- the plan buffer
 
@@ -67,7 +67,7 @@ module _ (c : Contents) (lim : ℕ) (old new : List ℕ) (r : Solved) where
     -- where there is an answer set and no limit is met, there is an answer
     pub found : (X : Atoms) → AnswerSet (program c) X → ((k s : ℕ) → r ≢ solved.Limit k s) → (k : ℕ) × (s : ℕ) × (r ≡ solved.Answer k s)
     -- an accepted table is not refused
-    pub taken : (f : Refusal) → r ≢ solved.Refused f
+    pub taken : (n i : ℕ) → reportOf r ≢ refusalReport n i
 
   -- ---- demand 3: o is what the defined jumping search ends with, p what the plain one does
 
@@ -90,9 +90,9 @@ module _ (c : Contents) (lim : ℕ) (old new : List ℕ) (r : Solved) where
 -- ---- the whole
 
 pub record Solving (t : List ℤ) (lim : ℕ) (old new : List ℕ) (r : Solved) : Type 0 where
-  -- demand 1: refused with f exactly where 01's table says so; then the whole buffer is as it was (the counts are 0: `choicesOf`, `skipsOf`)
-  pub refused : (f : Refusal) → (r ≡ solved.Refused f) ↔ Refused t (length old) f
-  pub untouched : (f : Refusal) → r ≡ solved.Refused f → new ≡ old
+  -- demand 1: refused with number n and place i, and counts 0, exactly where 01's table says so; then the whole buffer is as it was
+  pub refused : (n i : ℕ) → (reportOf r ≡ refusalReport n i) ↔ Refused t (Plan (length old)) n i
+  pub untouched : (n i : ℕ) → reportOf r ≡ refusalReport n i → new ≡ old
   -- demands 2 and 3 of every accepted table
-  pub meaning : (c : Contents) → Accepted t (length old) c → Meaning c lim old new r
-  pub searching : (c : Contents) → Accepted t (length old) c → (o : Outcome) × (p : Outcome) × Searching c lim old new r o p
+  pub meaning : (c : Contents) → Accepted t (Plan (length old)) c → Meaning c lim old new r
+  pub searching : (c : Contents) → Accepted t (Plan (length old)) c → (o : Outcome) × (p : Outcome) × Searching c lim old new r o p

@@ -1,5 +1,5 @@
 // The two entries of the base: `solve` and `approve` (01, "What comes back"). Neither asks anything of its caller. Meaning: `specs/`, one file for
-// the refusals, one for each entry; that each promise has one answer only: `proofs/Unique.antt`.
+// each entry, and of the refusals crate `judging`; that each promise has one answer only: `proofs/Unique.antt`.
 ghost use mathlib.Core.Path.{_≡_};
 ghost use Prim.Native.Nat.{_≤_};
 ghost use lib.ListN.{length};
@@ -9,6 +9,7 @@ ghost use Rattle.layout.specs.Layout.{Laid, programOf};
 ghost use Rattle.solver.specs.Solving.{Solving};
 ghost use Rattle.solver.specs.Approving.{planAtoms, Approving};
 ghost use Rattle.solver.specs.Plans.{badFrom, checkedBy};
+use judging::Buffer;
 use layout::Table;
 use plans::Offer;
 use results::Checked;
@@ -16,7 +17,6 @@ use results::Refusal;
 use results::Solved;
 use table::Fault;
 
-mod judging;
 mod plans;
 
 // The night's plan: an answer, none or limit with the choices and the skips, or a refusal. Only an answer writes, and only the bytes of the
@@ -25,7 +25,7 @@ pub fn solve(words: &[i32], limit: u32, plan: &mut [u8]) -> Solved
     ensures { λ r. ⌜ Solving (now (words .entry)) limit (now (plan .entry)) (now (plan .exit)) r ⌝ }
 {
     let room = plan.len();
-    let judged = judging::judge(words, room);
+    let judged = judging::judge(words, Buffer::Plan(room));
     let fault = judged.fault;
     match fault {
         Fault::Refused(f) => Solved::Refused(f),
@@ -43,7 +43,7 @@ pub fn approve(words: &[i32], plan: &[u8]) -> Checked
     ensures { λ r. ⌜ Approving (now (words .entry)) (now (plan .entry)) r ⌝ }
 {
     let room = plan.len();
-    let judged = judging::judge(words, room);
+    let judged = judging::judge(words, Buffer::Plan(room));
     let fault = judged.fault;
     match fault {
         Fault::Refused(f) => Checked::Refused(f),

@@ -99,7 +99,7 @@ impl Reading {
 }
 
 // The reading of a table that ends in `end` before its last rule: no table.
-pub fn unread(end: Part) -> Reading
+fn unread(end: Part) -> Reading
     ensures { λ r. ⌜ r ≡ unreadPart end ⌝ }
 {
     let starts = [0u16; 64];

@@ -11,9 +11,11 @@ use Rattle.results.specs.declared.Checked.the-variants as checked
 use Rattle.layout.specs.Layout.{programOf}
 use Rattle.table.specs.Contents.{Contents, program}
 use Rattle.table.proofs.Accepted.{accepted-atoms}
-use Rattle.solver.specs.Refusals.{Accepted}
+use Rattle.judging.specs.declared.Buffer.the-variants.{Plan}
+use Rattle.judging.specs.Refusals.{Accepted}
+use Rattle.judging.specs.Judging.{Placed}
+use Rattle.judging.proofs.Judged.{plan-wide, judged-refused, judged-taken}
 use Rattle.solver.specs.Approving.{planAtoms, before}
-use Rattle.solver.specs.Judging.{Placed}
 use Rattle.solver.specs.Plans.{badFrom, checkedBy}
 use Rattle.solver.proofs.Approved.{approving-refused, approving-accepted}
 use Rattle.solver.proofs.approve.Statement.{statement}
@@ -30,18 +32,22 @@ enum-told c = search needs
 
 -- what was accepted
 taken : (c : tie.After-tb) → let j = c .before .before .before in let a = j .before .before .args in
-    (d : Contents) × Accepted (a .words .now) (length (a .plan .now)) d × Placed (a .words .now) (j .judge .result .table) d
-taken c = let j = c .before .before .before in j .judge .ensures .accepted (c .before .enum-told .given .1)
+    (d : Contents) × Accepted (a .words .now) (Plan (length (a .plan .now))) d × Placed (a .words .now) (j .judge .result .table) d
+taken c =
+    let j = c .before .before .before in
+    let a = j .before .before .args in
+    judged-taken (a .words .now) (Plan (length (a .plan .now))) (j .judge .result) (j .judge .ensures) (c .before .enum-told .given .1)
 
 check-requires : tie.Need-check-requires
-check-requires c κs = (taken c .2 .laid, taken c .1 .plan)
+check-requires c κs = (taken c .2 .laid, plan-wide _ (taken c .1 .buffer))
 
 returns : tie.Need-returns
 returns c =
     let f = c .before .fault .given in
     let j = c .before .before .before in
     let a = j .before .before .args in
-    approving-refused (a .words .now) (a .plan .now) (checked.Refused (f .0 .0)) (f .0 .0) (before (j .judge .ensures .refused (f .0 .0) (f .1))) refl
+    approving-refused (a .words .now) (a .plan .now) (checked.Refused (f .0 .0)) (f .0 .0)
+    (before (judged-refused (a .words .now) (Plan (length (a .plan .now))) (j .judge .result) (f .0 .0) (j .judge .ensures) (f .1))) refl
 
 returns-2 : tie.Need-returns-2
 returns-2 c =

@@ -13,8 +13,10 @@ use Rattle.table.proofs.Accepted.{accepted-atoms}
 use Rattle.search.specs.Search.{jump, solve}
 use Rattle.search.specs.Base.{base}
 use Rattle.jumping.specs.Jumping.{endOf}
-use Rattle.solver.specs.Refusals.{Accepted}
-use Rattle.solver.specs.Judging.{Placed}
+use Rattle.judging.specs.declared.Buffer.the-variants.{Plan}
+use Rattle.judging.specs.Refusals.{Accepted}
+use Rattle.judging.specs.Judging.{Placed}
+use Rattle.judging.proofs.Judged.{plan-wide, judged-refused, judged-taken}
 use Rattle.solver.specs.Solving.{planAfter}
 use Rattle.solver.proofs.Entry.{solving-refused, solving-accepted}
 use Rattle.solver.proofs.solve.Statement.{statement}
@@ -31,8 +33,11 @@ enum-told c = search needs
 
 -- what was accepted
 taken : (c : tie.After-tb) → let j = c .before .before .before in let a = j .before .before .args in
-    (d : Contents) × Accepted (a .words .now) (length (a .plan .now)) d × Placed (a .words .now) (j .judge .result .table) d
-taken c = let j = c .before .before .before in j .judge .ensures .accepted (c .before .enum-told .given .1)
+    (d : Contents) × Accepted (a .words .now) (Plan (length (a .plan .now))) d × Placed (a .words .now) (j .judge .result .table) d
+taken c =
+    let j = c .before .before .before in
+    let a = j .before .before .args in
+    judged-taken (a .words .now) (Plan (length (a .plan .now))) (j .judge .result) (j .judge .ensures) (c .before .enum-told .given .1)
 
 search-requires : tie.Need-search-requires
 search-requires c κs = taken c .2 .laid
@@ -41,7 +46,7 @@ report-requires : tie.Need-report-requires
 report-requires c κs =
     let x = taken (c .before .before) in
     let f = x .2 .laid .fewAtoms in
-    let w = x .1 .plan in
+    let w = plan-wide _ (x .1 .buffer) in
     (f, omega arith)
 
 returns : tie.Need-returns
@@ -49,7 +54,8 @@ returns c =
     let f = c .before .fault .given in
     let j = c .before .before .before in
     let a = j .before .before .args in
-    solving-refused (a .words .now) (a .limit) (a .plan .now) (a .plan .now) (solved.Refused (f .0 .0)) (f .0 .0) (j .judge .ensures .refused (f .0 .0) (f .1)) refl refl
+    solving-refused (a .words .now) (a .limit) (a .plan .now) (a .plan .now) (solved.Refused (f .0 .0)) (f .0 .0)
+    (judged-refused (a .words .now) (Plan (length (a .plan .now))) (j .judge .result) (f .0 .0) (j .judge .ensures) (f .1)) refl refl
 
 same-length : tie.Need-same-length
 same-length c = search needs

@@ -1,0 +1,90 @@
+-- `judging::words_judged` meets its contract: each way out is one of 01's refusals of the words, or what they hold. Assumes nothing.
+use borrow.Author.Needs.{needs}
+use mathlib.Core.Path.{_≡_, refl, sym, ap, _∙_, subst}
+use Prim.Native.Nat.{ℕ, _≤_}
+use lib.ListN.{length}
+use Rattle.layout.specs.declared.Table.{Table}
+use Rattle.layout.specs.Layout.{Laid, programOf}
+use Rattle.table.specs.Contents.{Contents, program}
+use Rattle.table.specs.Grammar as grammar
+use Rattle.table.specs.Places.{tableOf}
+use Rattle.table.specs.declared.Reading.{Reading}
+use Rattle.table.proofs.Accepted.{fault-nothing, fault-refused, reading-accepted, reading-refused, accepted-laid}
+use Rattle.depend.specs.Cycles.{cycleOf}
+use Rattle.judging.specs.Refusals.{table}
+use Rattle.judging.specs.Judging.{refused, taken}
+use Rattle.judging.proofs.Judged.{cycle-refuses, none-accepts, same-cycles}
+use Rattle.judging.proofs.words_judged.Statement.{statement}
+use Rattle.judging.proofs.words_judged.Tie as tie
+
+read-requires : tie.Need-read-requires
+read-requires c κs = search needs
+
+enum-told : tie.Need-enum-told
+enum-told c = search needs
+
+enum-told-2 : tie.Need-enum-told-2
+enum-told-2 c = search needs
+
+-- the contents of the words that were read, and their places
+holding : (c : tie.After-enum-told2) → let x = c .before .before in let t = x .before .args .words .now in
+    (d : Contents) × (grammar.contentsOf t ≡ grammar.accepted d) × (x .read .result .table ≡ tableOf d)
+holding c =
+    let x = c .before .before in
+    let t = x .before .args .words .now in
+    let w = fault-nothing t (sym (ap (λ (r : Reading). r .fault) (x .read .ensures)) ∙ c .enum-told2 .given .1) in
+    (w .0, w .1, ap (λ (r : Reading). r .table) (x .read .ensures) ∙ w .2)
+
+refusal-requires : tie.Need-refusal-requires
+refusal-requires c κs =
+    let h = holding (c .before) in
+    let t = c .before .before .before .before .args .words .now in
+    subst (Laid t) (sym (h .2)) (accepted-laid t (h .0) (h .1))
+
+-- the cycles of the contents are what was found
+cycles : (c : tie.After-refusal) → let h = holding (c .before .before) in cycleOf (h .0 .atoms) (program (h .0)) ≡ c .refusal .result
+cycles c =
+    let y = c .before .before in
+    let h = holding y in
+    let t = y .before .before .before .args .words .now in
+    sym (same-cycles t (h .0) (h .1))
+    ∙ ap (λ (tb : Table). cycleOf (tb .atoms) (programOf t tb)) (sym (h .2)) ∙ sym (c .refusal .ensures)
+
+enum-told-3 : tie.Need-enum-told-3
+enum-told-3 c = search needs
+
+enum-known-cycle : tie.Need-enum-known-cycle
+enum-known-cycle c = search needs
+
+refused-requires : tie.Need-refused-requires
+refused-requires c κs = search needs
+
+returns : tie.Need-returns
+returns c few b good =
+    let x = c .before .before in
+    let t = x .before .args .words .now in
+    let e = fault-refused t _ (sym (ap (λ (r : Reading). r .fault) (x .read .ensures)) ∙ c .enum-told .given .1) in
+    refused _ (table few good _ e refl refl) (x .read .ensures ∙ reading-refused t _ e)
+
+returns-2 : tie.Need-returns-2
+returns-2 c few b good =
+    let z = c .before .before in
+    let y = z .before .before in
+    let h = holding y in
+    let x = y .before .before in
+    let t = x .before .args .words .now in
+    taken (h .0) (none-accepts t b few good (h .0) (h .1) (cycles z ∙ c .enum-told3 .given .1)) (x .read .ensures ∙ reading-accepted t (h .0) (h .1))
+
+returns-3 : tie.Need-returns-3
+returns-3 c few b good =
+    let k = c .before .before in
+    let z = k .before .before in
+    let y = z .before .before in
+    let h = holding y in
+    let t = y .before .before .before .args .words .now in
+    refused (k .cycle .given .0 .0) (cycle-refuses t b few good (h .0) (h .1) (k .cycle .given .0 .0) (cycles z ∙ k .cycle .given .1)) (c .refused .ensures)
+
+pub words-judged-spec : {M : Type 1} → statement M
+words-judged-spec =
+    tie.close
+    (tie.spec read-requires enum-told enum-told-2 refusal-requires enum-told-3 enum-known-cycle refused-requires returns returns-2 returns-3)

@@ -1,0 +1,132 @@
+-- A refusal is determined by its number and place, and a result by what it says: so a promise that names these fixes the result. Assumes nothing.
+--   refusal-determined                    of a refusal
+--   report-refusal, check-refusal         what says that it is refused with a number and a place is that refusal
+--   report-determines, check-determines   of a result of solving, and of the check
+--   number-unique, place-unique           the promises of `number` and `place` have one answer each
+use mathlib.Core.Path.{_≡_, refl, sym, _∙_, ap}
+use mathlib.Core.List.{List, [], _∷_}
+use Prim.Native.Nat.{ℕ}
+use native.Mathlib.Omega.{arith}
+use lib.ListN.{getD}
+use Rattle.results.specs.declared.Refusal.{Refusal}
+use Rattle.results.specs.declared.Refusal.the-variants as refusal
+use Rattle.results.specs.declared.Solved.{Solved}
+use Rattle.results.specs.declared.Solved.the-variants as solved
+use Rattle.results.specs.declared.Checked.{Checked}
+use Rattle.results.specs.declared.Checked.the-variants as checked
+use Rattle.results.specs.Results.{numberOf, placeOf, Report, reportOf, refusalReport, CheckReport, checkReportOf, refusalCheck}
+
+-- the refusal with a number and a place; 0, and 17 to 23, are no refusal's number
+abbrev refusalAt : ℕ → ℕ → Refusal
+refusalAt n i =
+    getD
+    (refusal.TooManyWords
+    ∷ refusal.TooManyWords
+    ∷ refusal.Absent i
+    ∷ refusal.Trailing i
+    ∷ refusal.Count i
+    ∷ refusal.Number i
+    ∷ refusal.Descent i
+    ∷ refusal.Quantity i
+    ∷ refusal.HeadCycle i
+    ∷ refusal.AggregateCycle i
+    ∷ refusal.ShortPlan
+    ∷ refusal.PlanByte i
+    ∷ refusal.BadNumber i
+    ∷ refusal.TooManyBytes
+    ∷ refusal.OutsideSubset i
+    ∷ refusal.BeyondRange i
+    ∷ refusal.ShortBuffer
+    ∷ refusal.TooManyWords
+    ∷ refusal.TooManyWords
+    ∷ refusal.TooManyWords
+    ∷ refusal.TooManyWords
+    ∷ refusal.TooManyWords
+    ∷ refusal.TooManyWords
+    ∷ refusal.TooManyWords
+    ∷ refusal.NamesLost
+    ∷ refusal.ShortWords
+    ∷ [])
+    n
+    refusal.TooManyWords
+
+refusal-back : (f : Refusal) → refusalAt (numberOf f) (placeOf f) ≡ f
+refusal-back refusal.TooManyWords = refl
+refusal-back (refusal.Absent i) = refl
+refusal-back (refusal.Trailing i) = refl
+refusal-back (refusal.Count i) = refl
+refusal-back (refusal.Number i) = refl
+refusal-back (refusal.Descent i) = refl
+refusal-back (refusal.Quantity i) = refl
+refusal-back (refusal.HeadCycle r) = refl
+refusal-back (refusal.AggregateCycle r) = refl
+refusal-back refusal.ShortPlan = refl
+refusal-back (refusal.PlanByte i) = refl
+refusal-back (refusal.BadNumber k) = refl
+refusal-back refusal.TooManyBytes = refl
+refusal-back (refusal.OutsideSubset l) = refl
+refusal-back (refusal.BeyondRange l) = refl
+refusal-back refusal.ShortBuffer = refl
+refusal-back refusal.NamesLost = refl
+refusal-back refusal.ShortWords = refl
+
+pub refusal-determined : (f g : Refusal) → numberOf f ≡ numberOf g → placeOf f ≡ placeOf g → f ≡ g
+refusal-determined f g n i = sym (refusal-back f) ∙ ap (λ (k : ℕ). refusalAt k (placeOf f)) n ∙ ap (refusalAt (numberOf g)) i ∙ refusal-back g
+
+-- ---- results of solving
+
+-- two kinds
+kinds : {x y : Report} → x ≡ y → x .kind ≡ y .kind
+kinds e = ap (λ (r : Report). r .kind) e
+
+pub report-refusal : (r : Solved) (n i : ℕ) → reportOf r ≡ refusalReport n i → (f : Refusal) × (r ≡ solved.Refused f) × (numberOf f ≡ n) × (placeOf f ≡ i)
+report-refusal (solved.Answer c s) n i e = absurd (let k = kinds e in omega arith)
+report-refusal (solved.Nothing c s) n i e = absurd (let k = kinds e in omega arith)
+report-refusal (solved.Limit c s) n i e = absurd (let k = kinds e in omega arith)
+report-refusal (solved.Refused f) n i e = (f, refl, ap (λ (r : Report). r .number) e, ap (λ (r : Report). r .place) e)
+
+pub report-determines : (r s : Solved) → reportOf r ≡ reportOf s → r ≡ s
+report-determines (solved.Answer c s) (solved.Answer c′ s′) e = ap (λ (r : Report). solved.Answer (r .choices) (r .skips)) e
+report-determines (solved.Answer c s) (solved.Nothing c′ s′) e = absurd (let k = kinds e in omega arith)
+report-determines (solved.Answer c s) (solved.Limit c′ s′) e = absurd (let k = kinds e in omega arith)
+report-determines (solved.Answer c s) (solved.Refused f) e = absurd (let k = kinds e in omega arith)
+report-determines (solved.Nothing c s) (solved.Answer c′ s′) e = absurd (let k = kinds e in omega arith)
+report-determines (solved.Nothing c s) (solved.Nothing c′ s′) e = ap (λ (r : Report). solved.Nothing (r .choices) (r .skips)) e
+report-determines (solved.Nothing c s) (solved.Limit c′ s′) e = absurd (let k = kinds e in omega arith)
+report-determines (solved.Nothing c s) (solved.Refused f) e = absurd (let k = kinds e in omega arith)
+report-determines (solved.Limit c s) (solved.Answer c′ s′) e = absurd (let k = kinds e in omega arith)
+report-determines (solved.Limit c s) (solved.Nothing c′ s′) e = absurd (let k = kinds e in omega arith)
+report-determines (solved.Limit c s) (solved.Limit c′ s′) e = ap (λ (r : Report). solved.Limit (r .choices) (r .skips)) e
+report-determines (solved.Limit c s) (solved.Refused f) e = absurd (let k = kinds e in omega arith)
+report-determines (solved.Refused f) s e =
+    let w = report-refusal s (numberOf f) (placeOf f) (sym e) in
+    ap solved.Refused (refusal-determined f (w .0) (sym (w .2)) (sym (w .3))) ∙ sym (w .1)
+
+-- ---- results of the check
+
+checks : {x y : CheckReport} → x ≡ y → x .kind ≡ y .kind
+checks e = ap (λ (r : CheckReport). r .kind) e
+
+pub check-refusal : (r : Checked) (n i : ℕ) → checkReportOf r ≡ refusalCheck n i → (f : Refusal) × (r ≡ checked.Refused f) × (numberOf f ≡ n) × (placeOf f ≡ i)
+check-refusal checked.Yes n i e = absurd (let k = checks e in omega arith)
+check-refusal checked.No n i e = absurd (let k = checks e in omega arith)
+check-refusal (checked.Refused f) n i e = (f, refl, ap (λ (r : CheckReport). r .number) e, ap (λ (r : CheckReport). r .place) e)
+
+pub check-determines : (r s : Checked) → checkReportOf r ≡ checkReportOf s → r ≡ s
+check-determines checked.Yes checked.Yes e = refl
+check-determines checked.Yes checked.No e = absurd (let k = checks e in omega arith)
+check-determines checked.Yes (checked.Refused f) e = absurd (let k = checks e in omega arith)
+check-determines checked.No checked.Yes e = absurd (let k = checks e in omega arith)
+check-determines checked.No checked.No e = refl
+check-determines checked.No (checked.Refused f) e = absurd (let k = checks e in omega arith)
+check-determines (checked.Refused f) s e =
+    let w = check-refusal s (numberOf f) (placeOf f) (sym e) in
+    ap checked.Refused (refusal-determined f (w .0) (sym (w .2)) (sym (w .3))) ∙ sym (w .1)
+
+-- ---- the public functions
+
+pub number-unique : (f : Refusal) (n n′ : ℕ) → n ≡ numberOf f → n′ ≡ numberOf f → n ≡ n′
+number-unique f n n′ e e′ = e ∙ sym e′
+
+pub place-unique : (f : Refusal) (i i′ : ℕ) → i ≡ placeOf f → i′ ≡ placeOf f → i ≡ i′
+place-unique f i i′ e e′ = e ∙ sym e′

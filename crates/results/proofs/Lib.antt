@@ -1,0 +1,2 @@
+-- What is proved of the results. Assumes nothing.
+pub mod Determined
