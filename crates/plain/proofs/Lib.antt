@@ -1,0 +1,2 @@
+-- What the proofs of several functions share. Assumes nothing.
+pub mod Sides

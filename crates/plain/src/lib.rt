@@ -1,0 +1,126 @@
+// The plain engine (request 5 of 02): 01's search with no jump and no reason, to be read beside 01. One part opens a choice, the other tries a side of it,
+// each calling the other while fewer atoms stay undefined. Meaning: `specs/`.
+ghost use mathlib.Core.Path.{_≡_};
+ghost use Prim.Native.Nat.{_≤_};
+ghost use Rattle.interpretation.specs.State.{AllDefined, defined, put, lowest, trueAtoms};
+ghost use Rattle.interpretation.specs.View.{valued, found};
+ghost use Rattle.layout.specs.Layout.{Laid, programOf};
+ghost use Rattle.heads.specs.Heads.{Listed};
+ghost use Rattle.search.specs.Engine.{byTest};
+ghost use Rattle.search.specs.Base.{foundedTest};
+ghost use Rattle.plain.specs.Plain.{told, Sided, Chosen};
+ghost use Rattle.plain.specs.declared.Ending.the-variants.{Limit};
+use heads::Lists;
+use interpretation::Choice;
+use layout::Table;
+
+// How a side of a choice ended.
+pub enum Ending {
+    Answer,
+    Nothing,
+    Limit,
+}
+
+// What a side of a choice holds: with an answer `values` is the plan; `choices` are those opened so far.
+pub struct Tried {
+    pub values: [u8; 256],
+    pub ending: Ending,
+    pub choices: u32,
+}
+
+// Tries a side: "propagate", and where there is no conflict go on.
+pub fn try_side(
+    t: &[i32],
+    tb: Table,
+    lists: &Lists,
+    limit: u32,
+    values: [u8; 256],
+    choices: u32,
+) -> Tried
+    requires { ⌜ Laid (now t) tb × Listed (now t) tb (now lists) × (choices ≤ limit) ⌝ }
+    ensures { λ r. ⌜ Sided (programOf (now (t .entry)) tb) (tb .atoms) limit values choices r ⌝ }
+{
+    let pass = passes::propagate(t, tb, lists, values);
+    let after = pass.values;
+    if pass.conflict {
+        return ended(Ending::Nothing, after, choices);
+    }
+    choose(t, tb, lists, limit, after, choices)
+}
+
+// Opens a choice: "at the limit, end with limit; else open one more level with the lowest undefined atom true .. this is one choice". Where that side holds
+// nothing, "that atom becomes false" and this side is tried.
+pub fn choose(
+    t: &[i32],
+    tb: Table,
+    lists: &Lists,
+    limit: u32,
+    values: [u8; 256],
+    choices: u32,
+) -> Tried
+    requires { ⌜ Laid (now t) tb × Listed (now t) tb (now lists) × (choices ≤ limit) ⌝ }
+    ensures { λ r. ⌜ Chosen (programOf (now (t .entry)) tb) (tb .atoms) limit values choices r ⌝ }
+{
+    let lowest = lowest_undefined(&values, tb.atoms);
+    let Choice::Atom(p) = lowest else {
+        return tested(t, tb, values, choices);
+    };
+    if limit <= choices {
+        return ended(Ending::Limit, values, choices);
+    }
+    let first = try_side(t, tb, lists, limit, with(values, p, true), choices + 1);
+    let ending = first.ending;
+    match ending {
+        Ending::Answer => first,
+        Ending::Limit => first,
+        Ending::Nothing => try_side(t, tb, lists, limit, with(values, p, false), first.choices),
+    }
+}
+
+// "If there is no conflict and all atoms are defined, test foundedness .. All true atoms added: answer. If not: conflict".
+pub fn tested(t: &[i32], tb: Table, values: [u8; 256], choices: u32) -> Tried
+    requires { ⌜ Laid (now t) tb × AllDefined (tb .atoms) (valued values) ⌝ }
+    ensures { λ r. ⌜ (told (tb .atoms) r ≡ byTest (trueAtoms (tb .atoms) (valued values)) choices (foundedTest (programOf (now (t .entry)) tb) (tb .atoms) 0 (trueAtoms (tb .atoms) (valued values)))) × (r .choices ≡ choices) × (r .ending ≡ Limit → ⊥) ⌝ }
+{
+    if foundation::founded(t, tb, &values) {
+        return ended(Ending::Answer, values, choices);
+    }
+    ended(Ending::Nothing, values, choices)
+}
+
+// A side that has ended.
+pub fn ended(ending: Ending, values: [u8; 256], choices: u32) -> Tried
+    ensures { λ r. ⌜ r ≡ record { values = values; ending = ending; choices = choices } ⌝ }
+{
+    Tried {
+        values,
+        ending,
+        choices,
+    }
+}
+
+// The lowest undefined atom of 1 to n.
+pub fn lowest_undefined(values: &[u8; 256], n: usize) -> Choice
+    requires { ⌜ n ≤ 256 ⌝ }
+    ensures { λ r. ⌜ found r ≡ lowest (valued (now (values .entry))) n ⌝ }
+{
+    let mut i: usize = 0;
+    while i < n {
+        if values[i] == 0 {
+            let p = i + 1;
+            return Choice::Atom(p);
+        }
+        i += 1;
+    }
+    Choice::Nothing
+}
+
+// The values with atom p as v.
+pub fn with(mut values: [u8; 256], p: usize, v: bool) -> [u8; 256]
+    requires { ⌜ (1 ≤ p) × (p ≤ 256) ⌝ }
+    ensures { λ r. ⌜ valued r ≡ put p (defined v 0) (valued values) ⌝ }
+{
+    let i = p - 1;
+    values[i] = interpretation::byte(v);
+    values
+}
