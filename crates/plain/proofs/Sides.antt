@@ -1,6 +1,7 @@
 -- What the two parts of the engine hand back, as the engine of crate `search`, whose sides depend on the values alone.
 --   tries-alike      a side tried from interpretations whose cells are alike says the same
 --   passes-test, fails-test, conflict-side, settled-side             a side that ends; and one that goes on
+--   found-outcome    what the side of no choice at all holds is what the plain search ends with
 --   tested-all, at-limit, first-answers, first-halts, other-side     what a choice comes to
 -- Assumes nothing.
 use Prim.Native.Nat.{ℕ, zero, suc, _+_, _-_, _≤_, _<_}
@@ -8,7 +9,8 @@ use native.Mathlib.Omega.{arith}
 use mathlib.Core.Path.{_≡_, refl, sym, _∙_, ap, ap₂, subst, fun-ext}
 use mathlib.Core.Bool.{Bool, true, false}
 use mathlib.Core.Option.{Option, none, some}
-use mathlib.Core.List.{List}
+use mathlib.Core.List.{List, []}
+use lib.ListN.{replicate}
 use Rattle.meaning.specs.Cond.{ifLt}
 use Rattle.meaning.specs.Aggregates.{Atoms}
 use Rattle.meaning.specs.Program.{Program, AtomsIn}
@@ -20,7 +22,12 @@ use Rattle.interpretation.specs.declared.Value.{Value}
 use Rattle.interpretation.specs.declared.Value.the-variants.{True, False, Undefined}
 use Rattle.valuing.specs.Values.{saysTrue}
 use Rattle.steps.specs.Steps.{Verdict, settled, conflict, isSettled, Propagated, passes, begin, propagate}
-use Rattle.search.specs.Search.{openedAs}
+use Rattle.meaning.specs.Answers.{AnswerSet}
+use Rattle.interpretation.proofs.Laws.{cells-blank}
+use Rattle.search.specs.Search.{openedAs, limit, Outcome, plain, start, solve}
+use Rattle.search.specs.Laws.{Laws}
+use Rattle.search.proofs.Engine.{engine-right}
+use Rattle.search.proofs.Theorems.{limit-is-reached}
 use Rattle.search.specs.Engine as engine
 use Rattle.search.specs.Engine.{noReasons, byTest, orOther, opens, goesOn, tries}
 use Rattle.search.specs.Base.{verdictOf, foundedTest, base}
@@ -31,9 +38,9 @@ use Rattle.search.proofs.Parts.{lowest-some}
 use Rattle.search.proofs.Struct.{propagate-str}
 use Rattle.passes.specs.declared.Pass.{Pass}
 use Rattle.passes.specs.Passes.{Alike, Like, bare, verdictBy, workOf, undefinedTo}
-use Rattle.plain.specs.Plain.{toldBy, told, Sided, Chosen}
+use Rattle.plain.specs.Plain.{toldBy, told, Limited, Sided, Chosen, resultBy, resultOf}
 use Rattle.passes.proofs.Liking.{put-alike, propagated-cells, propagated-verdict, propagate-cells, propagate-verdict}
-use Rattle.passes.proofs.Undefined.{undefined-alike, undefined-put, undefined-keeps}
+use Rattle.passes.proofs.Undefined.{undefined-top, undefined-alike, undefined-put, undefined-keeps}
 
 -- ---- what the values alone say
 
@@ -246,3 +253,26 @@ module _ (P : Program) (n lim : ℕ) (values : List ℕ) (k : ℕ) where
             S .says u (omega arith) ∙ sym (by-first u l Nothing i ∙ tries-alike P n lim u (setAt p false (bare values)) (bare later) (first .choices) (alike false later t 0)));
         limited = S .limited;
       }
+
+-- ---- the whole search
+
+says-by : (n : ℕ) (r : Tried) (p : Outcome) (lim : ℕ) → engine.Says (told n r) p → (p .result ≡ limit → p .choices ≡ lim) → Limited lim r → (p .result ≡ resultOf n r) × (p .choices ≡ r .choices)
+says-by n r p lim S reached L = at (r .ending) refl S
+  where
+    at : (e : Ending) → r .ending ≡ e → engine.Says (toldBy e (trueAtoms n (valued (r .values))) (r .choices)) p → (p .result ≡ resultBy e (trueAtoms n (valued (r .values)))) × (p .choices ≡ r .choices)
+    at Answer i s = s
+    at Nothing i s = s
+    at Limit i s = (s, reached s ∙ sym (L .reached i))
+
+module _ (P : Program) (n lim : ℕ) (L : Laws (AnswerSet P) (base P n)) (r : Tried) (S : Sided P n lim (replicate 256 0) 0 r) where
+  from-start : told n r ≡ engine.engine (base P n) lim
+  unfolding engine.engine
+  from-start =
+      let h = undefined-top (valued (replicate 256 0)) n in
+      S .says (suc n) (omega arith)
+      ∙ tries-alike P n lim (suc n) (bare (replicate 256 0)) (start (base P n) .interpretation) 0 (λ q. ap (λ (a : ℕ → Cell). cellValue (a q)) (cells-blank 256 []))
+
+  pub found-outcome : (p : Outcome) → solve (base P n) plain lim ≡ some p → (p .result ≡ resultOf n r) × (p .choices ≡ r .choices)
+  found-outcome p e =
+      says-by n r p lim (subst (λ (x : engine.Tried). engine.Says x p) (sym from-start) (engine-right (AnswerSet P) (base P n) L lim p e))
+      (limit-is-reached (AnswerSet P) (base P n) L lim plain p e) (S .limited)

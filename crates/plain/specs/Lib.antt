@@ -1,2 +1,3 @@
--- The definitions that the contracts cite.
+-- What `plain::solve` promises: `Promise` is to be believed; `Plain` serves the code's own functions.
+pub mod Promise
 pub mod Plain

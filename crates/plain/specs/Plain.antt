@@ -2,6 +2,7 @@
 -- them.
 --   told             what a side of a choice holds, as crate `search` says it
 --   Sided, Chosen    what `try_side` and `choose` hand back: what the engine of crate `search` says of the side, however far its fuel is above the undefined atoms
+--   resultOf         the result that a side stands for
 -- Assumes nothing.
 use Prim.Native.Nat.{ℕ, _≤_, _<_}
 use mathlib.Core.Path.{_≡_}
@@ -14,6 +15,7 @@ use Rattle.passes.specs.Passes.{bare, undefinedTo}
 use Rattle.search.specs.Engine as engine
 use Rattle.search.specs.Engine.{tries, opens}
 use Rattle.search.specs.Base.{base}
+use Rattle.search.specs.Search.{Result, answer, noAnswer, limit}
 use Rattle.plain.specs.declared.Ending.{Ending}
 use Rattle.plain.specs.declared.Ending.the-variants.{Answer, Nothing, Limit}
 use Rattle.plain.specs.declared.Tried.{Tried}
@@ -38,3 +40,14 @@ pub record Sided (P : Program) (n lim : ℕ) (values : List ℕ) (k : ℕ) (r : 
 pub record Chosen (P : Program) (n lim : ℕ) (values : List ℕ) (k : ℕ) (r : Tried) : Type 0 where
   pub says : (u : ℕ) → undefinedTo n (valued values) ≤ u → told n r ≡ opens (base P n) lim (tries (base P n) lim u) (bare values) k (lowest (valued values) n)
   pub limited : Limited lim r
+
+-- ---- the report
+
+abbrev pub resultBy : Ending → Atoms → Result
+resultBy Answer X = answer X
+resultBy Nothing X = noAnswer
+resultBy Limit X = limit
+
+-- the result that a side stands for
+abbrev pub resultOf : ℕ → Tried → Result
+resultOf n r = resultBy (r .ending) (trueAtoms n (valued (r .values)))

@@ -2,34 +2,60 @@
 // each calling the other while fewer atoms stay undefined. Meaning: `specs/`.
 ghost use mathlib.Core.Path.{_≡_};
 ghost use Prim.Native.Nat.{_≤_};
+ghost use lib.ListN.{length};
 ghost use Rattle.interpretation.specs.State.{AllDefined, defined, put, lowest, trueAtoms};
 ghost use Rattle.interpretation.specs.View.{valued, found};
 ghost use Rattle.layout.specs.Layout.{Laid, programOf};
 ghost use Rattle.heads.specs.Heads.{Listed};
 ghost use Rattle.search.specs.Engine.{byTest};
 ghost use Rattle.search.specs.Base.{foundedTest};
-ghost use Rattle.plain.specs.Plain.{told, Sided, Chosen};
+ghost use Rattle.solver.specs.Solving.{solvedBy, planWith, planAfter};
+ghost use Rattle.plain.specs.Promise.{Plainly};
+ghost use Rattle.plain.specs.Plain.{told, Sided, Chosen, resultOf};
 ghost use Rattle.plain.specs.declared.Ending.the-variants.{Limit};
 use heads::Lists;
 use interpretation::Choice;
+use judging::Buffer;
 use layout::Table;
+use results::Solved;
+use table::Fault;
 
 // How a side of a choice ended.
-pub enum Ending {
+enum Ending {
     Answer,
     Nothing,
     Limit,
 }
 
 // What a side of a choice holds: with an answer `values` is the plan; `choices` are those opened so far.
-pub struct Tried {
+struct Tried {
     pub values: [u8; 256],
     pub ending: Ending,
     pub choices: u32,
 }
 
+// The night's plan by the plain search: an answer, none or limit with the choices, and no skips; or a refusal. Only an answer writes, and only the bytes
+// of the table's own atoms.
+pub fn solve(words: &[i32], limit: u32, plan: &mut [u8]) -> Solved
+    ensures { λ r. ⌜ Plainly (now (words .entry)) limit (now (plan .entry)) (now (plan .exit)) r ⌝ }
+{
+    let room = plan.len();
+    let judged = judging::judge(words, Buffer::Plan(room));
+    let fault = judged.fault;
+    match fault {
+        Fault::Refused(f) => Solved::Refused(f),
+        Fault::Nothing => {
+            let tb = judged.table;
+            let mut lists = [0u16; 17922];
+            heads::fill(words, tb, &mut lists);
+            let found = try_side(words, tb, &lists, limit, [0u8; 256], 0);
+            report(found, tb.atoms, plan)
+        }
+    }
+}
+
 // Tries a side: "propagate", and where there is no conflict go on.
-pub fn try_side(
+fn try_side(
     t: &[i32],
     tb: Table,
     lists: &Lists,
@@ -50,14 +76,7 @@ pub fn try_side(
 
 // Opens a choice: "at the limit, end with limit; else open one more level with the lowest undefined atom true .. this is one choice". Where that side holds
 // nothing, "that atom becomes false" and this side is tried.
-pub fn choose(
-    t: &[i32],
-    tb: Table,
-    lists: &Lists,
-    limit: u32,
-    values: [u8; 256],
-    choices: u32,
-) -> Tried
+fn choose(t: &[i32], tb: Table, lists: &Lists, limit: u32, values: [u8; 256], choices: u32) -> Tried
     requires { ⌜ Laid (now t) tb × Listed (now t) tb (now lists) × (choices ≤ limit) ⌝ }
     ensures { λ r. ⌜ Chosen (programOf (now (t .entry)) tb) (tb .atoms) limit values choices r ⌝ }
 {
@@ -78,7 +97,7 @@ pub fn choose(
 }
 
 // "If there is no conflict and all atoms are defined, test foundedness .. All true atoms added: answer. If not: conflict".
-pub fn tested(t: &[i32], tb: Table, values: [u8; 256], choices: u32) -> Tried
+fn tested(t: &[i32], tb: Table, values: [u8; 256], choices: u32) -> Tried
     requires { ⌜ Laid (now t) tb × AllDefined (tb .atoms) (valued values) ⌝ }
     ensures { λ r. ⌜ (told (tb .atoms) r ≡ byTest (trueAtoms (tb .atoms) (valued values)) choices (foundedTest (programOf (now (t .entry)) tb) (tb .atoms) 0 (trueAtoms (tb .atoms) (valued values)))) × (r .choices ≡ choices) × (r .ending ≡ Limit → ⊥) ⌝ }
 {
@@ -89,7 +108,7 @@ pub fn tested(t: &[i32], tb: Table, values: [u8; 256], choices: u32) -> Tried
 }
 
 // A side that has ended.
-pub fn ended(ending: Ending, values: [u8; 256], choices: u32) -> Tried
+fn ended(ending: Ending, values: [u8; 256], choices: u32) -> Tried
     ensures { λ r. ⌜ r ≡ record { values = values; ending = ending; choices = choices } ⌝ }
 {
     Tried {
@@ -100,7 +119,7 @@ pub fn ended(ending: Ending, values: [u8; 256], choices: u32) -> Tried
 }
 
 // The lowest undefined atom of 1 to n.
-pub fn lowest_undefined(values: &[u8; 256], n: usize) -> Choice
+fn lowest_undefined(values: &[u8; 256], n: usize) -> Choice
     requires { ⌜ n ≤ 256 ⌝ }
     ensures { λ r. ⌜ found r ≡ lowest (valued (now (values .entry))) n ⌝ }
 {
@@ -116,11 +135,41 @@ pub fn lowest_undefined(values: &[u8; 256], n: usize) -> Choice
 }
 
 // The values with atom p as v.
-pub fn with(mut values: [u8; 256], p: usize, v: bool) -> [u8; 256]
+fn with(mut values: [u8; 256], p: usize, v: bool) -> [u8; 256]
     requires { ⌜ (1 ≤ p) × (p ≤ 256) ⌝ }
     ensures { λ r. ⌜ valued r ≡ put p (defined v 0) (valued values) ⌝ }
 {
     let i = p - 1;
     values[i] = interpretation::byte(v);
     values
+}
+
+// What the search found, as a result; only an answer writes.
+fn report(found: Tried, n: usize, plan: &mut [u8]) -> Solved
+    requires { ⌜ (n ≤ 256) × (n ≤ length (now plan)) ⌝ }
+    ensures { λ r. ⌜ (r ≡ solvedBy (resultOf n found) (found .choices) 0) × (now (plan .exit) ≡ planAfter n (resultOf n found) (now (plan .entry))) ⌝ }
+{
+    let choices = found.choices;
+    let ending = found.ending;
+    match ending {
+        Ending::Answer => {
+            let values = found.values;
+            write(values, n, plan);
+            Solved::Answer(choices, 0)
+        }
+        Ending::Nothing => Solved::Nothing(choices, 0),
+        Ending::Limit => Solved::Limit(choices, 0),
+    }
+}
+
+// "byte i-1 of the plan buffer is 1 if atom i is true, else 0, and bytes from N on keep their contents".
+fn write(values: [u8; 256], n: usize, plan: &mut [u8])
+    requires { ⌜ (n ≤ 256) × (n ≤ length (now plan)) ⌝ }
+    ensures { λ _. ⌜ now (plan .exit) ≡ planWith n (trueAtoms n (valued values)) (now (plan .entry)) ⌝ }
+{
+    let mut i: usize = 0;
+    while i < n {
+        plan[i] = (values[i] == 1) as u8;
+        i += 1;
+    }
 }
