@@ -1,5 +1,4 @@
--- What the search needs to know of its states so that no index leaves its array: an atom's level is at most its number, the present level is
--- below each undefined atom, and each level's choice atom is true at that level. It is said of the view, so contracts need not say it.
+-- The start is `Ordered`, and setting an undefined atom, a choice, a jump and propagation keep a state so.
 -- Assumes nothing.
 use Prim.Native.Nat.{ℕ, zero, suc, _≤_, _<_}
 use mathlib.Core.Path.{_≡_, refl, sym, _∙_, ap, subst}
@@ -16,11 +15,7 @@ use Rattle.interpretation.proofs.Cells.{not-defined, same-level}
 use Rattle.steps.specs.Steps.{Verdict, settled, conflict, Work, ifSettled, pass, passes, begin, propagate}
 use Rattle.steps.proofs.Lift.{by-pass}
 use Rattle.search.proofs.Parts.{lowest-some}
-
-pub record Ordered (n : ℕ) (s : Interpretation) : Type 0 where
-  pub low : (q : ℕ) (v : Bool) (l : ℕ) → s .cell q ≡ defined v l → (l ≤ q) × (1 ≤ q) × (q ≤ n)
-  pub free : (q : ℕ) → 1 ≤ q → s .cell q ≡ undefined → s .level < q
-  pub chosen : (l : ℕ) → 1 ≤ l → l ≤ s .level → s .cell (s .choice l) ≡ defined true l
+use Rattle.jumping.specs.Jumping.{Ordered}
 
 -- p is an undefined atom of 1 .. n
 pub record Open (n : ℕ) (a : ℕ → Cell) (p : ℕ) : Type 0 where

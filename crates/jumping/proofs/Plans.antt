@@ -1,13 +1,13 @@
--- The plan, and that all atoms are defined, are read off the values alone. Assumes nothing.
-use mathlib.Core.Path.{_≡_, refl, sym, ap, _∙_, fun-ext}
-use mathlib.Core.Bool.{Bool, true, false}
+-- The plan and the lowest undefined atom are read off the values alone. Assumes nothing.
+use mathlib.Core.Path.{_≡_, refl, ap, _∙_, fun-ext}
+use mathlib.Core.Bool.{Bool, false}
+use mathlib.Core.Option.{Option, none, some}
 use mathlib.Core.List.{List}
-use Prim.Native.Nat.{ℕ, zero, suc, _≤_}
+use Prim.Native.Nat.{ℕ, zero, suc}
 use Rattle.meaning.specs.Cond.{ifLt}
-use Rattle.interpretation.specs.State.{Cell, undefined, defined, truthOf, trueAtoms, Defined, AllDefined}
+use Rattle.interpretation.specs.State.{truthOf, trueAtoms, lowestStep, lowest}
 use Rattle.interpretation.specs.View.{cells, cellBy, blank, valued}
 use Rattle.interpretation.specs.declared.Record.{Record}
-use Rattle.interpretation.proofs.Laws.{cells-zero, cells-suc}
 use lib.ListN.{getD}
 
 truth-by : (v k l : ℕ) → truthOf (cellBy v k) ≡ truthOf (cellBy v l)
@@ -27,15 +27,16 @@ plan-alone n vs rs = fun-ext at
     at zero = refl
     at (suc q) = ap (λ (b : Bool). ifLt q n b false) (truth-alone vs rs (suc q))
 
-defined-by : (v k l : ℕ) → (b : Bool) × (m : ℕ) × (cellBy v k ≡ defined b m) → (b : Bool) × (m : ℕ) × (cellBy v l ≡ defined b m)
-defined-by zero k l (b, m, e) = (b, m, e)
-defined-by (suc zero) k l d = (true, l, refl)
-defined-by (suc (suc v)) k l d = (false, l, refl)
+-- ---- the lowest undefined atom
 
-defined-alone : (vs : List ℕ) (rs : List Record) (p : ℕ) → Defined (cells vs rs) p → Defined (valued vs) p
-unfolding cells
-defined-alone vs rs zero d = d
-defined-alone vs rs (suc i) d = defined-by (getD vs i 0) (getD rs i blank .level) 0 d
+step-by : (o : Option ℕ) (n v k l : ℕ) → lowestStep o n (cellBy v k) ≡ lowestStep o n (cellBy v l)
+step-by (some p) n v k l = refl
+step-by none n zero k l = refl
+step-by none n (suc zero) k l = refl
+step-by none n (suc (suc v)) k l = refl
 
-pub all-alone : (n : ℕ) (vs : List ℕ) (rs : List Record) → AllDefined n (cells vs rs) → AllDefined n (valued vs)
-all-alone n vs rs h p a b = defined-alone vs rs p (h p a b)
+pub lowest-alone : (n : ℕ) (vs : List ℕ) (rs : List Record) → lowest (cells vs rs) n ≡ lowest (valued vs) n
+unfolding lowest cells
+lowest-alone zero vs rs = refl
+lowest-alone (suc n) vs rs =
+    ap (λ (o : Option ℕ). lowestStep o (suc n) (cellBy (getD vs n 0) (getD rs n blank .level))) (lowest-alone n vs rs) ∙ step-by (lowest (valued vs) n) (suc n) (getD vs n 0) (getD rs n blank .level) 0

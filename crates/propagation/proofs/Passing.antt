@@ -15,7 +15,7 @@ use Rattle.layout.specs.Layout.{ruleAt, RuleLies, programOf, Laid}
 use Rattle.layout.specs.declared.Table.{Table}
 use Rattle.heads.specs.Heads.{placesOf, Listed}
 use Rattle.heads.proofs.Laws.{places-lie, rules-at}
-use Rattle.steps.specs.Steps.{Verdict, conflict, Work, ifSettled, stepABC, countOf, isU, bodyLits, headLits, holdsNow, stepRule, stepDE, support, stepAtom, rulePass, atomPass, pass, passes}
+use Rattle.steps.specs.Steps.{Verdict, conflict, Work, ifSettled, stepABC, countOf, isU, bodyLits, headLits, holdsNow, stepRule, stepDE, support, stepAtom, rulePass, atomPass, pass, passes, further, passesMade}
 
 -- ---- rules
 
@@ -98,3 +98,9 @@ pub passes-on : (P : Program) (n f : ℕ) (w x : Work) → 0 < f → pass P n w 
 passes-on P n f w x h d =
     let e : f ≡ suc (f - 1) = omega arith in
     ap (λ (k : ℕ). passes P n k w) e ∙ ap (goOn P n (f - 1)) d
+
+-- and how many there are
+pub made-on : (P : Program) (n f : ℕ) (w x : Work) → 0 < f → pass P n w ≡ x → passesMade P n f w ≡ suc (further (x .verdict) (x .changed) (passesMade P n (f - 1) x))
+made-on P n f w x h d =
+    let e : f ≡ suc (f - 1) = omega arith in
+    ap (λ (k : ℕ). passesMade P n k w) e ∙ ap (λ (y : Work). suc (further (y .verdict) (y .changed) (passesMade P n (f - 1) y))) d
