@@ -1,0 +1,9 @@
+pub mod Liking
+pub mod Body
+pub mod Sets
+pub mod Walking
+pub mod Starting
+pub mod Turned
+pub mod Lacking
+pub mod Ordered
+pub mod Turns
