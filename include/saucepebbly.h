@@ -1,11 +1,17 @@
 /* Saucepebbly: the first answer set of a rule table, and the check of a proposed plan.
  *
- * The table is lent as signed 32-bit words: atoms, aggregates, rules, as the definition (docs) lays it out. A plan
- * is a buffer of at least 256 bytes; byte i - 1 is 1 if atom i is true and 0 if it is false.
+ * The table is lent as signed 32-bit words: atoms, aggregates, rules. docs/DEFINITION.md lays it out and says what
+ * every result means. A plan is a buffer of at least 256 bytes; byte i - 1 is 1 if atom i is true and 0 if it is false.
  *
- * Both entries read `words_len` words, keep nothing, allocate nothing and use no global memory. A length is the
- * number of elements at its pointer; a pointer whose length is 0 may be null. The buffers of one call must not
- * overlap, but for `words` and the plan of saucepebbly_approve, which are only read. Calls may run in parallel.
+ * For all entries:
+ * - A length is the number of elements at its pointer. A pointer whose length is 0 may be null. Each pointer is
+ *   aligned as its element type asks (4 bytes for words and reports, 2 for whys, 1 for plans and texts).
+ * - The buffers of one call must not overlap, but for two that are only read (declared const). Nothing else is asked:
+ *   every content is allowed, and a call reads and writes only what it is lent.
+ * - At most 16,384 words are looked at: with more the table is refused by its length alone.
+ * - Nothing is kept, nothing is allocated, there is no global memory. Calls may run in parallel.
+ * - The library calls memcpy and memset, and nothing else of the C library.
+ * - A report that is shorter than what an entry writes there is not written at all. The check leaves it alone on yes and no.
  *
  * Link with target/staticlib/libdock.a (`rt staticlib dock`); it is for x86-64 Linux.
  */
@@ -34,6 +40,21 @@ enum {
 enum {
     SAUCEPEBBLY_YES = 0, /* the plan is an answer set */
     SAUCEPEBBLY_NO = 1   /* it is not */
+};
+
+/* The number of a refusal: report[0] where an entry says SAUCEPEBBLY_REFUSED; report[1] is its place. */
+enum {
+    SAUCEPEBBLY_TOO_MANY_WORDS = 1,   /* more than 16,384 words; place 0 */
+    SAUCEPEBBLY_ABSENT_WORD = 2,      /* a needed word is absent; its index */
+    SAUCEPEBBLY_TRAILING_WORDS = 3,   /* words follow the last rule; index of the first */
+    SAUCEPEBBLY_COUNT = 4,            /* a count is outside its range; its index */
+    SAUCEPEBBLY_NUMBER = 5,           /* an atom or aggregate number is 0 or outside its range; its index */
+    SAUCEPEBBLY_DESCENT = 6,          /* a list does not ascend; index of the first member not above the one before */
+    SAUCEPEBBLY_QUANTITY = 7,         /* a function, comparison, threshold or value is outside its range; its index */
+    SAUCEPEBBLY_HEAD_CYCLE = 8,       /* head cycle; lowest such rule, from 1 */
+    SAUCEPEBBLY_AGGREGATE_CYCLE = 9,  /* aggregate cycle; lowest rule with such an arc, from 1 */
+    SAUCEPEBBLY_SHORT_PLAN = 10,      /* the plan buffer is shorter than 256 bytes; place 0 */
+    SAUCEPEBBLY_PLAN_BYTE = 11        /* check only: one of the first N bytes is neither 0 nor 1; its index */
 };
 
 /* Looks for the first answer set with at most `limit` choices. On an answer the bytes of the table's atoms are
