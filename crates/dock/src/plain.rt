@@ -1,0 +1,21 @@
+// The plain engine for C and Rust (request 5 of 02), as `include/saucepebbly.h` declares it. Meaning: `specs/Plain.antt`.
+ghost use Rattle.dock.specs.Plain.{SolvesPlainly};
+use crate::first;
+use crate::kind;
+use crate::second;
+use crate::write;
+
+// The night's plan by the plain search: the kind of the result, and in the report its two numbers.
+#[no_mangle]
+pub extern "C" fn saucepebbly_plain(
+    words: &[i32],
+    limit: u32,
+    plan: &mut [u8],
+    report: &mut [u32],
+) -> u32
+    ensures { λ k. ⌜ SolvesPlainly (now (words .entry)) limit (now (plan .entry)) (now (plan .exit)) (now (report .entry)) (now (report .exit)) k ⌝ }
+{
+    let solved = plain::solve(words, limit, plan);
+    write(report, first(solved), second(solved));
+    kind(solved)
+}
