@@ -2,3 +2,4 @@
 pub mod Reports
 pub mod Unique
 pub mod Places
+pub mod PlainEntry

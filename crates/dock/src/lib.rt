@@ -6,6 +6,8 @@ ghost use Rattle.results.specs.Results.{kindOf, checkKind};
 use results::Checked;
 use results::Solved;
 
+mod plain;
+
 // The kind of a result.
 fn kind(solved: Solved) -> u32
     ensures { λ r. ⌜ r ≡ kindOf solved ⌝ }

@@ -3,8 +3,8 @@
 ghost use mathlib.Core.Path.{_≡_};
 ghost use Prim.Native.Nat.{_≤_};
 ghost use lib.ListN.{length};
-ghost use Rattle.interpretation.specs.State.{AllDefined, defined, put, lowest, trueAtoms};
-ghost use Rattle.interpretation.specs.View.{valued, found};
+ghost use Rattle.interpretation.specs.State.{AllDefined, defined, put, trueAtoms};
+ghost use Rattle.interpretation.specs.View.{valued};
 ghost use Rattle.layout.specs.Layout.{Laid, programOf};
 ghost use Rattle.heads.specs.Heads.{Listed};
 ghost use Rattle.search.specs.Engine.{byTest};
@@ -80,14 +80,15 @@ fn choose(t: &[i32], tb: Table, lists: &Lists, limit: u32, values: [u8; 256], ch
     requires { ⌜ Laid (now t) tb × Listed (now t) tb (now lists) × (choices ≤ limit) ⌝ }
     ensures { λ r. ⌜ Chosen (programOf (now (t .entry)) tb) (tb .atoms) limit values choices r ⌝ }
 {
-    let lowest = lowest_undefined(&values, tb.atoms);
+    let lowest = jumping::lowest_undefined(&values, tb.atoms);
     let Choice::Atom(p) = lowest else {
         return tested(t, tb, values, choices);
     };
     if limit <= choices {
         return ended(Ending::Limit, values, choices);
     }
-    let first = try_side(t, tb, lists, limit, with(values, p, true), choices + 1);
+    let next = choices + 1;
+    let first = try_side(t, tb, lists, limit, with(values, p, true), next);
     let ending = first.ending;
     match ending {
         Ending::Answer => first,
@@ -116,22 +117,6 @@ fn ended(ending: Ending, values: [u8; 256], choices: u32) -> Tried
         ending,
         choices,
     }
-}
-
-// The lowest undefined atom of 1 to n.
-fn lowest_undefined(values: &[u8; 256], n: usize) -> Choice
-    requires { ⌜ n ≤ 256 ⌝ }
-    ensures { λ r. ⌜ found r ≡ lowest (valued (now (values .entry))) n ⌝ }
-{
-    let mut i: usize = 0;
-    while i < n {
-        if values[i] == 0 {
-            let p = i + 1;
-            return Choice::Atom(p);
-        }
-        i += 1;
-    }
-    Choice::Nothing
 }
 
 // The values with atom p as v.

@@ -22,7 +22,7 @@ use Rattle.plain.proofs.try_side.Reads as try-side
 use Rattle.plain.proofs.try_side.Kinds as try-side-kinds
 use Rattle.plain.proofs.+choose+try_side.Lts-try_side as try-side-lts
 use Rattle.plain.proofs.ended.Reads as ended-reads
-use Rattle.plain.proofs.lowest_undefined.Reads as lowest-undefined-reads
+use Rattle.jumping.proofs.lowest_undefined.Reads as lowest-undefined-reads
 use Rattle.passes.proofs.propagate.Reads as propagate-reads
 use Rattle.plain.proofs.tested.Reads as tested-reads
 use Rattle.plain.proofs.with.Reads as with-reads
@@ -159,6 +159,24 @@ choose-returns-2 t c =
     at-limit (programOf (a .t .now) (a .tb)) (a .tb .atoms) (a .limit) (a .t5) (a .choices) (k .lowest .given .0 .0) (sym (l .lowest-undefined .ensures) ∙ ap found (k .lowest .given .1))
     (c .before .if1 .taken) (b .pre .1 .2) (c .ended .result) (c .ended .ensures)
 
+choose-add-next : (t : ℕ) → choose-lts.Need-add-next (
+  lowest-undefined-reads.Asked,
+  lowest-undefined-reads.Learnt,
+  tested-reads.Asked,
+  tested-reads.Learnt,
+  ended-reads.Asked,
+  ended-reads.Learnt,
+  with-reads.Asked,
+  with-reads.Learnt,
+  try-side-below t,
+  try-side.Post,
+) (choose-at t) choose.Post
+choose-add-next t c =
+    let b = c .before .before .before .before .before .before in
+    let h = c .if1 .left in
+    let f = b .fits .limit in
+    omega (arith, h, f)
+
 choose-with-requires : (t : ℕ) → choose-lts.Need-with-requires (
   lowest-undefined-reads.Asked,
   lowest-undefined-reads.Learnt,
@@ -177,24 +195,6 @@ choose-with-requires t c κs =
     let b = l .before .before in
     let h = lowest-some (valued (b .args .t5)) (b .args .tb .atoms) (k .lowest .given .0 .0) (sym (l .lowest-undefined .ensures) ∙ ap found (k .lowest .given .1)) in
     (h .0, omega (arith, h .1, b .pre .1 .0 .fewAtoms))
-
-choose-add-try-side : (t : ℕ) → choose-lts.Need-add-try-side (
-  lowest-undefined-reads.Asked,
-  lowest-undefined-reads.Learnt,
-  tested-reads.Asked,
-  tested-reads.Learnt,
-  ended-reads.Asked,
-  ended-reads.Learnt,
-  with-reads.Asked,
-  with-reads.Learnt,
-  try-side-below t,
-  try-side.Post,
-) (choose-at t) choose.Post
-choose-add-try-side t c =
-    let b = c .before .before .before .before .before .before .before in
-    let h = c .before .if1 .left in
-    let f = b .fits .limit in
-    omega (arith, h, f)
 
 choose-try-side-requires : (t : ℕ) → choose-lts.Need-try-side-requires (
   lowest-undefined-reads.Asked,
@@ -456,8 +456,8 @@ pub +choose+try-side-spec : {M : Type 1} → statement M
     (choose-returns t)
     (choose-ended-requires t)
     (choose-returns-2 t)
+    (choose-add-next t)
     (choose-with-requires t)
-    (choose-add-try-side t)
     (choose-try-side-requires t)
     (choose-enum-told-2 t)
     (choose-enum-told-3 t)
