@@ -67,6 +67,12 @@ uint32_t saucepebbly_solve(const int32_t *words, size_t words_len, uint32_t limi
 uint32_t saucepebbly_approve(const int32_t *words, size_t words_len, const uint8_t *plan, size_t plan_len,
                              uint32_t *report, size_t report_len);
 
+/* The same as saucepebbly_solve by the plain search, which never jumps: one side of a choice after the other. It is for readers and for
+ * comparison, not for the dock: it may open many more choices, and it calls itself to the depth of the choices. Refusals, and where neither
+ * meets its limit the result and the plan, are those of saucepebbly_solve; the report's skips are 0. */
+uint32_t saucepebbly_plain(const int32_t *words, size_t words_len, uint32_t limit, uint8_t *plan, size_t plan_len,
+                           uint32_t *report, size_t report_len);
+
 #ifdef __cplusplus
 }
 #endif

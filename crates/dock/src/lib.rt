@@ -6,7 +6,7 @@ ghost use Rattle.results.specs.Results.{kindOf, checkKind};
 use results::Checked;
 use results::Solved;
 
-mod plain;
+mod plainly;
 
 // The kind of a result.
 fn kind(solved: Solved) -> u32

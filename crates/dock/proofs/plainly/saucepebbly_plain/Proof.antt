@@ -1,10 +1,10 @@
--- `dock::plain::saucepebbly_plain` meets its contract: the plain engine's promise, with the result's kind and numbers. Assumes nothing.
+-- `dock::plainly::saucepebbly_plain` meets its contract: the plain engine's promise, with the result's kind and numbers. Assumes nothing.
 use borrow.Author.Needs.{needs}
 use mathlib.Core.Path.{_≡_, sym, ap, _∙_}
 use Prim.Native.Nat.{ℕ}
 use Rattle.dock.specs.Dock.{firstOf, reported}
-use Rattle.dock.proofs.plain.saucepebbly_plain.Statement.{statement}
-use Rattle.dock.proofs.plain.saucepebbly_plain.Tie as tie
+use Rattle.dock.proofs.plainly.saucepebbly_plain.Statement.{statement}
+use Rattle.dock.proofs.plainly.saucepebbly_plain.Tie as tie
 
 solve-requires : tie.Need-solve-requires
 solve-requires c κs = search needs
