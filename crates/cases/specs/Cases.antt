@@ -1,13 +1,14 @@
 -- 01's cases with a star (A to K), and its worked example: limit, words, answer sets, and what the jumping and the plain search report. Definitions only.
 --   shownFor       what the definitions report of words with a limit, as numbers: 0 answer, 1 none, 2 limit, each with the choices, the skips and the true
 --                  atoms; 3 refused, with 01's number and place
---   listedFor      the answer sets of an accepted table, by trying every interpretation, in 01's order; none are listed of a refused one
---   asReported     the shared claim about the definitions, as one test: the answer sets (of tables with at most 4 atoms), and both searches
+--   listedFor      the answer sets of an accepted table, by trying every interpretation, in 01's order; a refused one has no such list
+--   asReported     the shared claim about the definitions, as one test: the answer sets, and both searches
 -- Assumes nothing.
 use Prim.Native.Nat.{ℕ}
-use mathlib.Core.Bool.{Bool, true, false, _&&_, _||_}
+use mathlib.Core.Bool.{Bool, true, false, _&&_}
+use mathlib.Core.Option.{Option, none, some}
 use mathlib.Core.List.{List, [], _∷_}
-use lib.Dec.{leb, ltb}
+use lib.Dec.{leb}
 use lib.IntN.{ℤ, pos, negsuc}
 use lib.ListN.{length}
 use Rattle.meaning.specs.Foundedness.{sameList}
@@ -45,15 +46,15 @@ shownFor mode t lim = shownContents (grammar.contentsOf t) mode lim
 
 -- ---- the answer sets, with no search
 
-abbrev pub listedCycle : Cycle → Contents → List (List ℕ)
-listedCycle (cycle.Refused f) c = []
-listedCycle cycle.Nothing c = answersOf (program c) (c .atoms)
+abbrev pub listedCycle : Cycle → Contents → Option (List (List ℕ))
+listedCycle (cycle.Refused f) c = none
+listedCycle cycle.Nothing c = some (answersOf (program c) (c .atoms))
 
-abbrev pub listedContents : grammar.Outcome → List (List ℕ)
-listedContents (grammar.refusedFor f) = []
+abbrev pub listedContents : grammar.Outcome → Option (List (List ℕ))
+listedContents (grammar.refusedFor f) = none
 listedContents (grammar.accepted c) = listedCycle (cycleOf (c .atoms) (program c)) c
 
-abbrev pub listedFor : List ℤ → List (List ℕ)
+abbrev pub listedFor : List ℤ → Option (List (List ℕ))
 listedFor t = listedContents (grammar.contentsOf t)
 
 abbrev pub sameLists : List (List ℕ) → List (List ℕ) → Bool
@@ -61,6 +62,12 @@ sameLists [] [] = true
 sameLists [] (m ∷ t) = false
 sameLists (l ∷ s) [] = false
 sameLists (l ∷ s) (m ∷ t) = sameList l m && sameLists s t
+
+abbrev pub sameAnswers : Option (List (List ℕ)) → Option (List (List ℕ)) → Bool
+sameAnswers none none = true
+sameAnswers none (some t) = false
+sameAnswers (some s) none = false
+sameAnswers (some s) (some t) = sameLists s t
 
 -- ---- what a result and a later plan buffer show of a table with n atoms
 
@@ -80,58 +87,72 @@ atomsIn (grammar.accepted c) = c .atoms
 pub record Case : Type 0 where
   pub limit : ℕ
   pub words : List ℤ
-  pub answers : List (List ℕ)
+  -- of an accepted table all its answer sets in 01's order, of a refused one none is listed
+  pub answers : Option (List (List ℕ))
   pub jumps : List ℕ
   pub plains : List ℕ
 
-abbrev pub case : ℕ → List ℤ → List (List ℕ) → List ℕ → List ℕ → Case
+abbrev pub case : ℕ → List ℤ → Option (List (List ℕ)) → List ℕ → List ℕ → Case
 case l t a j p = record { limit = l; words = t; answers = a; jumps = j; plains = p }
-
--- the answer sets are as said, where there are at most 4 atoms
-abbrev pub asListed : Case → Bool
-asListed c = ltb 4 (atomsIn (grammar.contentsOf (c .words))) || sameLists (listedFor (c .words)) (c .answers)
 
 unfoldable pub asReported : Case → Bool
 asReported c =
     leb (length (c .words)) 16384
-    && (sameList (shownFor jump (c .words) (c .limit)) (c .jumps) && (sameList (shownFor plain (c .words) (c .limit)) (c .plains) && asListed c))
+    && (sameList (shownFor jump (c .words) (c .limit)) (c .jumps) && (sameList (shownFor plain (c .words) (c .limit)) (c .plains) && sameAnswers (listedFor (c .words)) (c .answers)))
+
+-- the words of the worked example: 8 atoms, no aggregates, 8 rules
+abbrev pub worked : List ℤ
+worked =
+    pos 8 ∷ pos 0 ∷ pos 8
+    ∷ pos 2 ∷ pos 1 ∷ pos 2 ∷ pos 0 ∷ pos 0 ∷ pos 0
+    ∷ pos 2 ∷ pos 3 ∷ pos 4 ∷ pos 0 ∷ pos 0 ∷ pos 0
+    ∷ pos 2 ∷ pos 5 ∷ pos 6 ∷ pos 0 ∷ pos 0 ∷ pos 0
+    ∷ pos 2 ∷ pos 7 ∷ pos 8 ∷ pos 0 ∷ pos 0 ∷ pos 0
+    ∷ pos 0 ∷ pos 3 ∷ pos 1 ∷ pos 5 ∷ pos 7 ∷ pos 0 ∷ pos 0
+    ∷ pos 0 ∷ pos 3 ∷ pos 1 ∷ pos 5 ∷ pos 8 ∷ pos 0 ∷ pos 0
+    ∷ pos 0 ∷ pos 3 ∷ pos 1 ∷ pos 6 ∷ pos 7 ∷ pos 0 ∷ pos 0
+    ∷ pos 0 ∷ pos 3 ∷ pos 1 ∷ pos 6 ∷ pos 8 ∷ pos 0 ∷ pos 0 ∷ []
+
+-- its answer sets
+abbrev pub workedSets : List (List ℕ)
+workedSets = (2 ∷ 3 ∷ 5 ∷ 7 ∷ []) ∷ (2 ∷ 3 ∷ 5 ∷ 8 ∷ []) ∷ (2 ∷ 3 ∷ 6 ∷ 7 ∷ []) ∷ (2 ∷ 3 ∷ 6 ∷ 8 ∷ []) ∷ (2 ∷ 4 ∷ 5 ∷ 7 ∷ []) ∷ (2 ∷ 4 ∷ 5 ∷ 8 ∷ []) ∷ (2 ∷ 4 ∷ 6 ∷ 7 ∷ []) ∷ (2 ∷ 4 ∷ 6 ∷ 8 ∷ []) ∷ []
 
 unfoldable pub cases : List Case
 cases =
     -- A, limit 0: answer, nothing true, choices 0, skips 0
-    case 0 (pos 0 ∷ pos 0 ∷ pos 0 ∷ []) (([]) ∷ []) (0 ∷ 0 ∷ 0 ∷ []) (0 ∷ 0 ∷ 0 ∷ [])
+    case 0 (pos 0 ∷ pos 0 ∷ pos 0 ∷ []) (some ([] ∷ [])) (0 ∷ 0 ∷ 0 ∷ []) (0 ∷ 0 ∷ 0 ∷ [])
     -- B: none, 1 and 0
-    ∷ case 5 (pos 1 ∷ pos 0 ∷ pos 1 ∷ pos 1 ∷ pos 1 ∷ pos 0 ∷ pos 1 ∷ pos 1 ∷ pos 0 ∷ []) ([]) (1 ∷ 1 ∷ 0 ∷ []) (1 ∷ 1 ∷ 0 ∷ [])
+    ∷ case 5 (pos 1 ∷ pos 0 ∷ pos 1 ∷ pos 1 ∷ pos 1 ∷ pos 0 ∷ pos 1 ∷ pos 1 ∷ pos 0 ∷ []) (some []) (1 ∷ 1 ∷ 0 ∷ []) (1 ∷ 1 ∷ 0 ∷ [])
     -- B with limit 0: limit, 0 and 0
-    ∷ case 0 (pos 1 ∷ pos 0 ∷ pos 1 ∷ pos 1 ∷ pos 1 ∷ pos 0 ∷ pos 1 ∷ pos 1 ∷ pos 0 ∷ []) ([]) (2 ∷ 0 ∷ 0 ∷ []) (2 ∷ 0 ∷ 0 ∷ [])
+    ∷ case 0 (pos 1 ∷ pos 0 ∷ pos 1 ∷ pos 1 ∷ pos 1 ∷ pos 0 ∷ pos 1 ∷ pos 1 ∷ pos 0 ∷ []) (some []) (2 ∷ 0 ∷ 0 ∷ []) (2 ∷ 0 ∷ 0 ∷ [])
     -- C: answer, nothing true, 1 and 0
-    ∷ case 5 (pos 2 ∷ pos 0 ∷ pos 2 ∷ pos 1 ∷ pos 1 ∷ pos 1 ∷ pos 2 ∷ pos 0 ∷ pos 0 ∷ pos 1 ∷ pos 2 ∷ pos 1 ∷ pos 1 ∷ pos 0 ∷ pos 0 ∷ []) (([]) ∷ []) (0 ∷ 1 ∷ 0 ∷ []) (0 ∷ 1 ∷ 0 ∷ [])
+    ∷ case 5 (pos 2 ∷ pos 0 ∷ pos 2 ∷ pos 1 ∷ pos 1 ∷ pos 1 ∷ pos 2 ∷ pos 0 ∷ pos 0 ∷ pos 1 ∷ pos 2 ∷ pos 1 ∷ pos 1 ∷ pos 0 ∷ pos 0 ∷ []) (some ([] ∷ [])) (0 ∷ 1 ∷ 0 ∷ []) (0 ∷ 1 ∷ 0 ∷ [])
     -- D: answer 1; choices 1
-    ∷ case 5 (pos 2 ∷ pos 0 ∷ pos 1 ∷ pos 2 ∷ pos 1 ∷ pos 2 ∷ pos 0 ∷ pos 0 ∷ pos 0 ∷ []) ((1 ∷ []) ∷ (2 ∷ []) ∷ []) (0 ∷ 1 ∷ 0 ∷ 1 ∷ []) (0 ∷ 1 ∷ 0 ∷ 1 ∷ [])
+    ∷ case 5 (pos 2 ∷ pos 0 ∷ pos 1 ∷ pos 2 ∷ pos 1 ∷ pos 2 ∷ pos 0 ∷ pos 0 ∷ pos 0 ∷ []) (some ((1 ∷ []) ∷ (2 ∷ []) ∷ [])) (0 ∷ 1 ∷ 0 ∷ 1 ∷ []) (0 ∷ 1 ∷ 0 ∷ 1 ∷ [])
     -- E: refused 8, place 1
-    ∷ case 5 (pos 2 ∷ pos 0 ∷ pos 3 ∷ pos 2 ∷ pos 1 ∷ pos 2 ∷ pos 0 ∷ pos 0 ∷ pos 0 ∷ pos 1 ∷ pos 1 ∷ pos 1 ∷ pos 2 ∷ pos 0 ∷ pos 0 ∷ pos 1 ∷ pos 2 ∷ pos 1 ∷ pos 1 ∷ pos 0 ∷ pos 0 ∷ []) ([]) (3 ∷ 8 ∷ 1 ∷ []) (3 ∷ 8 ∷ 1 ∷ [])
+    ∷ case 5 (pos 2 ∷ pos 0 ∷ pos 3 ∷ pos 2 ∷ pos 1 ∷ pos 2 ∷ pos 0 ∷ pos 0 ∷ pos 0 ∷ pos 1 ∷ pos 1 ∷ pos 1 ∷ pos 2 ∷ pos 0 ∷ pos 0 ∷ pos 1 ∷ pos 2 ∷ pos 1 ∷ pos 1 ∷ pos 0 ∷ pos 0 ∷ []) none (3 ∷ 8 ∷ 1 ∷ []) (3 ∷ 8 ∷ 1 ∷ [])
     -- F: answer 1 2 3; choices 0
-    ∷ case 5 (pos 3 ∷ pos 1 ∷ pos 0 ∷ pos 1 ∷ pos 1 ∷ pos 2 ∷ pos 1 ∷ pos 1 ∷ pos 1 ∷ pos 2 ∷ pos 3 ∷ pos 1 ∷ pos 1 ∷ pos 0 ∷ pos 0 ∷ pos 0 ∷ pos 1 ∷ pos 2 ∷ pos 0 ∷ pos 0 ∷ pos 0 ∷ pos 1 ∷ pos 3 ∷ pos 0 ∷ pos 0 ∷ pos 1 ∷ pos 1 ∷ []) ((1 ∷ 2 ∷ 3 ∷ []) ∷ []) (0 ∷ 0 ∷ 0 ∷ 1 ∷ 2 ∷ 3 ∷ []) (0 ∷ 0 ∷ 0 ∷ 1 ∷ 2 ∷ 3 ∷ [])
+    ∷ case 5 (pos 3 ∷ pos 1 ∷ pos 0 ∷ pos 1 ∷ pos 1 ∷ pos 2 ∷ pos 1 ∷ pos 1 ∷ pos 1 ∷ pos 2 ∷ pos 3 ∷ pos 1 ∷ pos 1 ∷ pos 0 ∷ pos 0 ∷ pos 0 ∷ pos 1 ∷ pos 2 ∷ pos 0 ∷ pos 0 ∷ pos 0 ∷ pos 1 ∷ pos 3 ∷ pos 0 ∷ pos 0 ∷ pos 1 ∷ pos 1 ∷ []) (some ((1 ∷ 2 ∷ 3 ∷ []) ∷ [])) (0 ∷ 0 ∷ 0 ∷ 1 ∷ 2 ∷ 3 ∷ []) (0 ∷ 0 ∷ 0 ∷ 1 ∷ 2 ∷ 3 ∷ [])
     -- F with threshold 2: answer 1 2
-    ∷ case 5 (pos 3 ∷ pos 1 ∷ pos 0 ∷ pos 1 ∷ pos 2 ∷ pos 2 ∷ pos 1 ∷ pos 1 ∷ pos 1 ∷ pos 2 ∷ pos 3 ∷ pos 1 ∷ pos 1 ∷ pos 0 ∷ pos 0 ∷ pos 0 ∷ pos 1 ∷ pos 2 ∷ pos 0 ∷ pos 0 ∷ pos 0 ∷ pos 1 ∷ pos 3 ∷ pos 0 ∷ pos 0 ∷ pos 1 ∷ pos 1 ∷ []) ((1 ∷ 2 ∷ []) ∷ []) (0 ∷ 0 ∷ 0 ∷ 1 ∷ 2 ∷ []) (0 ∷ 0 ∷ 0 ∷ 1 ∷ 2 ∷ [])
+    ∷ case 5 (pos 3 ∷ pos 1 ∷ pos 0 ∷ pos 1 ∷ pos 2 ∷ pos 2 ∷ pos 1 ∷ pos 1 ∷ pos 1 ∷ pos 2 ∷ pos 3 ∷ pos 1 ∷ pos 1 ∷ pos 0 ∷ pos 0 ∷ pos 0 ∷ pos 1 ∷ pos 2 ∷ pos 0 ∷ pos 0 ∷ pos 0 ∷ pos 1 ∷ pos 3 ∷ pos 0 ∷ pos 0 ∷ pos 1 ∷ pos 1 ∷ []) (some ((1 ∷ 2 ∷ []) ∷ [])) (0 ∷ 0 ∷ 0 ∷ 1 ∷ 2 ∷ []) (0 ∷ 0 ∷ 0 ∷ 1 ∷ 2 ∷ [])
     -- G: nothing true
-    ∷ case 5 (pos 2 ∷ pos 1 ∷ pos 2 ∷ pos 1 ∷ pos 3 ∷ pos 1 ∷ pos 5 ∷ pos 1 ∷ pos 1 ∷ pos 1 ∷ pos 2 ∷ pos 0 ∷ pos 0 ∷ pos 1 ∷ pos 1 ∷ []) (([]) ∷ []) (0 ∷ 0 ∷ 0 ∷ []) (0 ∷ 0 ∷ 0 ∷ [])
+    ∷ case 5 (pos 2 ∷ pos 1 ∷ pos 2 ∷ pos 1 ∷ pos 3 ∷ pos 1 ∷ pos 5 ∷ pos 1 ∷ pos 1 ∷ pos 1 ∷ pos 2 ∷ pos 0 ∷ pos 0 ∷ pos 1 ∷ pos 1 ∷ []) (some ([] ∷ [])) (0 ∷ 0 ∷ 0 ∷ []) (0 ∷ 0 ∷ 0 ∷ [])
     -- G with the aggregate negated: answer 2
-    ∷ case 5 (pos 2 ∷ pos 1 ∷ pos 2 ∷ pos 1 ∷ pos 3 ∷ pos 1 ∷ pos 5 ∷ pos 1 ∷ pos 1 ∷ pos 1 ∷ pos 2 ∷ pos 0 ∷ pos 0 ∷ pos 1 ∷ negsuc 0 ∷ []) ((2 ∷ []) ∷ []) (0 ∷ 0 ∷ 0 ∷ 2 ∷ []) (0 ∷ 0 ∷ 0 ∷ 2 ∷ [])
+    ∷ case 5 (pos 2 ∷ pos 1 ∷ pos 2 ∷ pos 1 ∷ pos 3 ∷ pos 1 ∷ pos 5 ∷ pos 1 ∷ pos 1 ∷ pos 1 ∷ pos 2 ∷ pos 0 ∷ pos 0 ∷ pos 1 ∷ negsuc 0 ∷ []) (some ((2 ∷ []) ∷ [])) (0 ∷ 0 ∷ 0 ∷ 2 ∷ []) (0 ∷ 0 ∷ 0 ∷ 2 ∷ [])
     -- H: refused 9, place 1
-    ∷ case 5 (pos 1 ∷ pos 1 ∷ pos 0 ∷ pos 1 ∷ pos 0 ∷ pos 1 ∷ pos 1 ∷ pos 1 ∷ pos 1 ∷ pos 1 ∷ pos 1 ∷ pos 0 ∷ pos 0 ∷ pos 1 ∷ pos 1 ∷ []) ([]) (3 ∷ 9 ∷ 1 ∷ []) (3 ∷ 9 ∷ 1 ∷ [])
+    ∷ case 5 (pos 1 ∷ pos 1 ∷ pos 0 ∷ pos 1 ∷ pos 0 ∷ pos 1 ∷ pos 1 ∷ pos 1 ∷ pos 1 ∷ pos 1 ∷ pos 1 ∷ pos 0 ∷ pos 0 ∷ pos 1 ∷ pos 1 ∷ []) none (3 ∷ 9 ∷ 1 ∷ []) (3 ∷ 9 ∷ 1 ∷ [])
     -- I: answer 1 2 3
-    ∷ case 5 (pos 3 ∷ pos 1 ∷ pos 1 ∷ pos 1 ∷ pos 65535 ∷ pos 2 ∷ pos 65535 ∷ pos 1 ∷ pos 1 ∷ pos 2 ∷ pos 3 ∷ pos 1 ∷ pos 1 ∷ pos 0 ∷ pos 0 ∷ pos 0 ∷ pos 1 ∷ pos 2 ∷ pos 0 ∷ pos 0 ∷ pos 0 ∷ pos 1 ∷ pos 3 ∷ pos 0 ∷ pos 0 ∷ pos 1 ∷ pos 1 ∷ []) ((1 ∷ 2 ∷ 3 ∷ []) ∷ []) (0 ∷ 0 ∷ 0 ∷ 1 ∷ 2 ∷ 3 ∷ []) (0 ∷ 0 ∷ 0 ∷ 1 ∷ 2 ∷ 3 ∷ [])
+    ∷ case 5 (pos 3 ∷ pos 1 ∷ pos 1 ∷ pos 1 ∷ pos 65535 ∷ pos 2 ∷ pos 65535 ∷ pos 1 ∷ pos 1 ∷ pos 2 ∷ pos 3 ∷ pos 1 ∷ pos 1 ∷ pos 0 ∷ pos 0 ∷ pos 0 ∷ pos 1 ∷ pos 2 ∷ pos 0 ∷ pos 0 ∷ pos 0 ∷ pos 1 ∷ pos 3 ∷ pos 0 ∷ pos 0 ∷ pos 1 ∷ pos 1 ∷ []) (some ((1 ∷ 2 ∷ 3 ∷ []) ∷ [])) (0 ∷ 0 ∷ 0 ∷ 1 ∷ 2 ∷ 3 ∷ []) (0 ∷ 0 ∷ 0 ∷ 1 ∷ 2 ∷ 3 ∷ [])
     -- I with threshold 65,536: answer 1 2
-    ∷ case 5 (pos 3 ∷ pos 1 ∷ pos 1 ∷ pos 1 ∷ pos 65536 ∷ pos 2 ∷ pos 65535 ∷ pos 1 ∷ pos 1 ∷ pos 2 ∷ pos 3 ∷ pos 1 ∷ pos 1 ∷ pos 0 ∷ pos 0 ∷ pos 0 ∷ pos 1 ∷ pos 2 ∷ pos 0 ∷ pos 0 ∷ pos 0 ∷ pos 1 ∷ pos 3 ∷ pos 0 ∷ pos 0 ∷ pos 1 ∷ pos 1 ∷ []) ((1 ∷ 2 ∷ []) ∷ []) (0 ∷ 0 ∷ 0 ∷ 1 ∷ 2 ∷ []) (0 ∷ 0 ∷ 0 ∷ 1 ∷ 2 ∷ [])
+    ∷ case 5 (pos 3 ∷ pos 1 ∷ pos 1 ∷ pos 1 ∷ pos 65536 ∷ pos 2 ∷ pos 65535 ∷ pos 1 ∷ pos 1 ∷ pos 2 ∷ pos 3 ∷ pos 1 ∷ pos 1 ∷ pos 0 ∷ pos 0 ∷ pos 0 ∷ pos 1 ∷ pos 2 ∷ pos 0 ∷ pos 0 ∷ pos 0 ∷ pos 1 ∷ pos 3 ∷ pos 0 ∷ pos 0 ∷ pos 1 ∷ pos 1 ∷ []) (some ((1 ∷ 2 ∷ []) ∷ [])) (0 ∷ 0 ∷ 0 ∷ 1 ∷ 2 ∷ []) (0 ∷ 0 ∷ 0 ∷ 1 ∷ 2 ∷ [])
     -- K: no words: refused 2, place 0
-    ∷ case 5 ([]) ([]) (3 ∷ 2 ∷ 0 ∷ []) (3 ∷ 2 ∷ 0 ∷ [])
+    ∷ case 5 ([]) none (3 ∷ 2 ∷ 0 ∷ []) (3 ∷ 2 ∷ 0 ∷ [])
     -- K: words 257: refused 4, place 0
-    ∷ case 5 (pos 257 ∷ []) ([]) (3 ∷ 4 ∷ 0 ∷ []) (3 ∷ 4 ∷ 0 ∷ [])
+    ∷ case 5 (pos 257 ∷ []) none (3 ∷ 4 ∷ 0 ∷ []) (3 ∷ 4 ∷ 0 ∷ [])
     -- K: words 0 0 0 0: refused 3, place 3
-    ∷ case 5 (pos 0 ∷ pos 0 ∷ pos 0 ∷ pos 0 ∷ []) ([]) (3 ∷ 3 ∷ 3 ∷ []) (3 ∷ 3 ∷ 3 ∷ [])
+    ∷ case 5 (pos 0 ∷ pos 0 ∷ pos 0 ∷ pos 0 ∷ []) none (3 ∷ 3 ∷ 3 ∷ []) (3 ∷ 3 ∷ 3 ∷ [])
     -- the worked example: answer 6 1: 2 3 5 7; the plain search opens 7 choices
-    ∷ case 100 (pos 8 ∷ pos 0 ∷ pos 8 ∷ pos 2 ∷ pos 1 ∷ pos 2 ∷ pos 0 ∷ pos 0 ∷ pos 0 ∷ pos 2 ∷ pos 3 ∷ pos 4 ∷ pos 0 ∷ pos 0 ∷ pos 0 ∷ pos 2 ∷ pos 5 ∷ pos 6 ∷ pos 0 ∷ pos 0 ∷ pos 0 ∷ pos 2 ∷ pos 7 ∷ pos 8 ∷ pos 0 ∷ pos 0 ∷ pos 0 ∷ pos 0 ∷ pos 3 ∷ pos 1 ∷ pos 5 ∷ pos 7 ∷ pos 0 ∷ pos 0 ∷ pos 0 ∷ pos 3 ∷ pos 1 ∷ pos 5 ∷ pos 8 ∷ pos 0 ∷ pos 0 ∷ pos 0 ∷ pos 3 ∷ pos 1 ∷ pos 6 ∷ pos 7 ∷ pos 0 ∷ pos 0 ∷ pos 0 ∷ pos 3 ∷ pos 1 ∷ pos 6 ∷ pos 8 ∷ pos 0 ∷ pos 0 ∷ []) ([]) (0 ∷ 6 ∷ 1 ∷ 2 ∷ 3 ∷ 5 ∷ 7 ∷ []) (0 ∷ 7 ∷ 0 ∷ 2 ∷ 3 ∷ 5 ∷ 7 ∷ [])
+    ∷ case 100 worked (some workedSets) (0 ∷ 6 ∷ 1 ∷ 2 ∷ 3 ∷ 5 ∷ 7 ∷ []) (0 ∷ 7 ∷ 0 ∷ 2 ∷ 3 ∷ 5 ∷ 7 ∷ [])
     -- the worked example with limit 5: limit 5 1
-    ∷ case 5 (pos 8 ∷ pos 0 ∷ pos 8 ∷ pos 2 ∷ pos 1 ∷ pos 2 ∷ pos 0 ∷ pos 0 ∷ pos 0 ∷ pos 2 ∷ pos 3 ∷ pos 4 ∷ pos 0 ∷ pos 0 ∷ pos 0 ∷ pos 2 ∷ pos 5 ∷ pos 6 ∷ pos 0 ∷ pos 0 ∷ pos 0 ∷ pos 2 ∷ pos 7 ∷ pos 8 ∷ pos 0 ∷ pos 0 ∷ pos 0 ∷ pos 0 ∷ pos 3 ∷ pos 1 ∷ pos 5 ∷ pos 7 ∷ pos 0 ∷ pos 0 ∷ pos 0 ∷ pos 3 ∷ pos 1 ∷ pos 5 ∷ pos 8 ∷ pos 0 ∷ pos 0 ∷ pos 0 ∷ pos 3 ∷ pos 1 ∷ pos 6 ∷ pos 7 ∷ pos 0 ∷ pos 0 ∷ pos 0 ∷ pos 3 ∷ pos 1 ∷ pos 6 ∷ pos 8 ∷ pos 0 ∷ pos 0 ∷ []) ([]) (2 ∷ 5 ∷ 1 ∷ []) (2 ∷ 5 ∷ 0 ∷ [])
+    ∷ case 5 worked (some workedSets) (2 ∷ 5 ∷ 1 ∷ []) (2 ∷ 5 ∷ 0 ∷ [])
     ∷ []

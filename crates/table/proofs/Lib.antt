@@ -16,4 +16,3 @@ pub mod FirstFault
 pub mod Accepted
 pub mod Theorem
 pub mod Members
-pub mod Examples
