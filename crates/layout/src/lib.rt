@@ -1,5 +1,7 @@
-// The parts of an accepted table, read in place (01, "The rule table"): "The words of each list are handed on as the part of the table that
-// holds them, with no copy made." Meaning: `specs/Layout.antt`. Crate `table` finds the places; the functions here rely on them.
+// The table: its limits, where reading starts, and the parts of an accepted one, read in place (01, "The rule table"): "The words of each list
+// are handed on as the part of the table that holds them, with no copy made". Of a rule `part` returns each of the four lists as that part of
+// the caller's slice, its count standing at the rule's own index, at `past` of it, at `past` of that, and at `literals_at`. Meaning:
+// `specs/Layout.antt`. Crate `table` finds the places; the functions here rely on them.
 ghost use mathlib.Core.Path.{_≡_};
 ghost use Prim.Native.Nat.{_+_, _-_, _*_, _≤_, _<_};
 ghost use lib.ListN.{length, getD};
@@ -15,7 +17,46 @@ pub struct Table {
     pub aggregates: usize,
     pub rules: usize,
     pub first: usize,
-    pub starts: [u16; 64],
+    pub starts: [u16; Table::AGGREGATES],
+}
+
+// Where reading stands: the index of the next word.
+pub type Cursor = usize;
+
+impl Table {
+    // "At most 16,384 words in all."
+    pub const WORDS: usize = 16384;
+    // "the count N, 0 to 256"
+    pub const ATOMS: usize = 256;
+    // "the count G, 0 to 64"
+    pub const AGGREGATES: usize = 64;
+    // "function (0 count, 1 sum, 2 min, 3 max), comparison (0 less than, 1 greater than), threshold (-1 to 4,194,304)"
+    pub const FUNCTION: i32 = 3;
+
+    pub const COMPARISON: i32 = 1;
+
+    pub const LOWEST: i32 = -1;
+
+    pub const THRESHOLD: i32 = 4194304;
+    // "element count (0 to 64), then pairs of value (0 to 65,535) and atom"
+    pub const ELEMENTS: usize = 64;
+
+    pub const VALUE: i32 = 65535;
+    // "the count M, 0 to 1,024"
+    pub const RULES: usize = 1024;
+    // "head atoms (0 to 16), positive body atoms (0 to 64), negated body atoms (0 to 64), aggregate literals (0 to 8)"
+    pub const HEAD: usize = 16;
+
+    pub const BODY: usize = 64;
+
+    pub const LITERALS: usize = 8;
+
+    // Reading starts at the first word.
+    pub fn start() -> Cursor
+        ensures { λ r. ⌜ r ≡ 0 ⌝ }
+    {
+        0
+    }
 }
 
 // The list whose count stands at `at`, as a part of the table.

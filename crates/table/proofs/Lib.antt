@@ -1,6 +1,5 @@
 -- What the proofs of several functions share, and the laws of the table. Assumes nothing.
 pub mod Drops
-pub mod Fits
 pub mod Run
 pub mod Faults
 pub mod Enums

@@ -13,7 +13,6 @@ use Rattle.layout.specs.declared.Table.{Table}
 use Rattle.table.specs.Roles.{Result, read, refused}
 use Rattle.table.specs.Contents.{NumberedRule, Contents, encodeAggregate, encodeAll}
 use Rattle.table.specs.Grammar.{Outcome, accepted, refusedFor, contentsOf}
-use Rattle.table.specs.declared.Cursor.{Cursor}
 use Rattle.table.specs.declared.Next.{Next}
 use Rattle.table.specs.declared.Next.the-variants as next
 use Rattle.table.specs.declared.Got.{Got}
@@ -25,9 +24,6 @@ use Rattle.table.specs.declared.Fault.the-variants as fault
 use Rattle.table.specs.declared.Reading.{Reading}
 
 -- ---- words and parts
-
-abbrev pub startCursor : Cursor
-startCursor = record { at = 0 }
 
 -- the first of the words, which has index i
 abbrev pub wordOf : ℕ → List ℤ → Next

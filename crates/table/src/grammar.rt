@@ -6,10 +6,11 @@ ghost use Rattle.table.specs.Grammar.{members, list, elements, aggregate
 ghost use Rattle.table.specs.Places.{partOf, passedOf};
 use crate::Got;
 use crate::Part;
-use crate::Reading;
 use crate::roles::count_at;
 use crate::roles::member_at;
 use crate::roles::quantity_at;
+use layout::Cursor;
+use layout::Table;
 
 // The index past a word.
 pub fn passed(g: Got) -> Part
@@ -22,7 +23,7 @@ pub fn passed(g: Got) -> Part
 }
 
 // The index past `n` members from `i` on.
-pub fn members_at(t: &[i32], i: usize, n: usize, signed: bool, top: usize) -> Part
+pub fn members_at(t: &[i32], i: Cursor, n: usize, signed: bool, top: usize) -> Part
     ensures { λ r. ⌜ r ≡ partOf (run (members signed top 0 n) i (drop i (now (t .entry)))) ⌝ }
 {
     let mut at = i;
@@ -41,7 +42,7 @@ pub fn members_at(t: &[i32], i: usize, n: usize, signed: bool, top: usize) -> Pa
 }
 
 // The index past a list of at most `most` members whose count stands at `i`.
-pub fn list_at(t: &[i32], i: usize, most: usize, signed: bool, top: usize) -> Part
+pub fn list_at(t: &[i32], i: Cursor, most: usize, signed: bool, top: usize) -> Part
     ensures { λ r. ⌜ r ≡ partOf (run (list most signed top) i (drop i (now (t .entry)))) ⌝ }
 {
     let c = count_at(t, i, most);
@@ -52,14 +53,14 @@ pub fn list_at(t: &[i32], i: usize, most: usize, signed: bool, top: usize) -> Pa
 }
 
 // The index past `n` pairs of value and atom from `i` on.
-pub fn elements_at(t: &[i32], i: usize, n: usize, top: usize) -> Part
+pub fn elements_at(t: &[i32], i: Cursor, n: usize, top: usize) -> Part
     ensures { λ r. ⌜ r ≡ partOf (run (elements top 0 n) i (drop i (now (t .entry)))) ⌝ }
 {
     let mut at = i;
     let mut previous: usize = 0;
     let mut left = n;
     while 0 < left {
-        let v = quantity_at(t, at, 0, Reading::VALUE);
+        let v = quantity_at(t, at, 0, Table::VALUE);
         let Got::Number(_, place) = v else {
             return passed(v);
         };
@@ -75,22 +76,22 @@ pub fn elements_at(t: &[i32], i: usize, n: usize, top: usize) -> Part
 }
 
 // The index past the aggregate that begins at `i`, over atoms 1 to `top`.
-pub fn aggregate_at(t: &[i32], i: usize, top: usize) -> Part
+pub fn aggregate_at(t: &[i32], i: Cursor, top: usize) -> Part
     ensures { λ r. ⌜ r ≡ partOf (run (aggregate top) i (drop i (now (t .entry)))) ⌝ }
 {
-    let f = quantity_at(t, i, 0, Reading::FUNCTION);
+    let f = quantity_at(t, i, 0, Table::FUNCTION);
     let Got::Number(_, comparison) = f else {
         return passed(f);
     };
-    let c = quantity_at(t, comparison, 0, Reading::COMPARISON);
+    let c = quantity_at(t, comparison, 0, Table::COMPARISON);
     let Got::Number(_, threshold) = c else {
         return passed(c);
     };
-    let b = quantity_at(t, threshold, Reading::LOWEST, Reading::THRESHOLD);
+    let b = quantity_at(t, threshold, Table::LOWEST, Table::THRESHOLD);
     let Got::Number(_, count) = b else {
         return passed(b);
     };
-    let e = count_at(t, count, Reading::ELEMENTS);
+    let e = count_at(t, count, Table::ELEMENTS);
     let Got::Number(n, first) = e else {
         return passed(e);
     };
@@ -98,26 +99,26 @@ pub fn aggregate_at(t: &[i32], i: usize, top: usize) -> Part
 }
 
 // The index past the rule that begins at `i`, over atoms 1 to `top` and aggregates 1 to `most`.
-pub fn rule_at(t: &[i32], i: usize, top: usize, most: usize) -> Part
+pub fn rule_at(t: &[i32], i: Cursor, top: usize, most: usize) -> Part
     ensures { λ r. ⌜ r ≡ partOf (run (rule top most) i (drop i (now (t .entry)))) ⌝ }
 {
-    let head = list_at(t, i, Reading::HEAD, false, top);
+    let head = list_at(t, i, Table::HEAD, false, top);
     let Part::Past(positive) = head else {
         return head;
     };
-    let body = list_at(t, positive, Reading::BODY, false, top);
+    let body = list_at(t, positive, Table::BODY, false, top);
     let Part::Past(negated) = body else {
         return body;
     };
-    let barred = list_at(t, negated, Reading::BODY, false, top);
+    let barred = list_at(t, negated, Table::BODY, false, top);
     let Part::Past(literals) = barred else {
         return barred;
     };
-    list_at(t, literals, Reading::LITERALS, true, most)
+    list_at(t, literals, Table::LITERALS, true, most)
 }
 
 // The index past `n` rules from `i` on.
-pub fn rules_at(t: &[i32], i: usize, n: usize, top: usize, most: usize) -> Part
+pub fn rules_at(t: &[i32], i: Cursor, n: usize, top: usize, most: usize) -> Part
     ensures { λ r. ⌜ r ≡ partOf (run (times n (rule top most)) i (drop i (now (t .entry)))) ⌝ }
 {
     let mut at = i;

@@ -1,6 +1,7 @@
 // The rule table: read in place, or refused exactly (01, "The rule table", and the refusals 1 to 7 of "What comes back"). One pass over the
 // words, from the left; nothing is copied and nothing is written; no local is larger than the 128 bytes of the aggregates' places.
-// `roles` reads one word, `grammar` the parts, `starts` the section of the aggregates; `access` hands on the lists of a rule.
+// The cursor starts at `Table::start()`; each function takes where it stands and hands back where it stands then, or a refusal.
+// `roles` reads one word, `grammar` the parts, `starts` the section of the aggregates. The lists of a rule are handed on by `layout::part`.
 // Meaning: `specs/Grammar.antt` has the table's words with their roles and the contents that they make, `specs/Contents.antt` the ranges, the
 // encoding and the program. `proofs/Theorem.antt`: accepted exactly if an encoding, and the place is the first fault. What later crates rely on is
 // `layout`'s `Laid`, which `proofs/Accepted.antt` shows of every accepted table.
@@ -8,15 +9,15 @@ ghost use mathlib.Core.Path.{_≡_};
 ghost use lib.ListN.{drop};
 ghost use Rattle.table.specs.Roles.{run};
 ghost use Rattle.table.specs.Grammar.{rules};
-ghost use Rattle.table.specs.Places.{startCursor, unreadPart, finished, readingOf};
+ghost use Rattle.table.specs.Places.{unreadPart, finished, readingOf};
 use crate::grammar::passed;
 use crate::grammar::rules_at;
 use crate::roles::count_at;
 use crate::starts::aggregates_at;
+use layout::Cursor;
 use layout::Table;
 use results::Refusal;
 
-pub mod access;
 mod grammar;
 mod roles;
 mod starts;
@@ -32,77 +33,36 @@ pub enum Fault {
     Refused(Refusal),
 }
 
-// Where reading stands: the index of the next word.
-pub struct Cursor {
-    pub at: usize,
-}
-
 // A word with the index of the next one, or a refusal.
 pub enum Next {
-    Word(i32, usize),
+    Word(i32, Cursor),
     Refused(Refusal),
 }
 
 // A word that has passed its tests, without its sign, with the index of the next one; or a refusal.
 pub enum Got {
-    Number(usize, usize),
+    Number(usize, Cursor),
     Refused(Refusal),
 }
 
 // The index past a part of the table, or the first refusal in it.
 pub enum Part {
-    Past(usize),
+    Past(Cursor),
     Refused(Refusal),
 }
 
 // The section of the aggregates: their number, where each begins, and the index past them or the first refusal.
 pub struct Places {
     pub number: usize,
-    pub starts: [u16; 64],
+    pub starts: [u16; Table::AGGREGATES],
     pub end: Part,
-}
-
-impl Reading {
-    // "At most 16,384 words in all."
-    pub const WORDS: usize = 16384;
-    // "the count N, 0 to 256"
-    pub const ATOMS: usize = 256;
-    // "the count G, 0 to 64"
-    pub const AGGREGATES: usize = 64;
-    // "function (0 count, 1 sum, 2 min, 3 max), comparison (0 less than, 1 greater than), threshold (-1 to 4,194,304)"
-    pub const FUNCTION: i32 = 3;
-
-    pub const COMPARISON: i32 = 1;
-
-    pub const LOWEST: i32 = -1;
-
-    pub const THRESHOLD: i32 = 4194304;
-    // "element count (0 to 64), then pairs of value (0 to 65,535) and atom"
-    pub const ELEMENTS: usize = 64;
-
-    pub const VALUE: i32 = 65535;
-    // "the count M, 0 to 1,024"
-    pub const RULES: usize = 1024;
-    // "head atoms (0 to 16), positive body atoms (0 to 64), negated body atoms (0 to 64), aggregate literals (0 to 8)"
-    pub const HEAD: usize = 16;
-
-    pub const BODY: usize = 64;
-
-    pub const LITERALS: usize = 8;
-
-    // Reading starts at the first word.
-    pub fn start() -> Cursor
-        ensures { λ r. ⌜ r ≡ startCursor ⌝ }
-    {
-        Cursor { at: 0 }
-    }
 }
 
 // The reading of a table that ends in `end` before its last rule: no table.
 fn unread(end: Part) -> Reading
     ensures { λ r. ⌜ r ≡ unreadPart end ⌝ }
 {
-    let starts = [0u16; 64];
+    let starts = [0u16; Table::AGGREGATES];
     let table = Table {
         atoms: 0,
         aggregates: 0,
@@ -123,10 +83,10 @@ fn unread(end: Part) -> Reading
 }
 
 // The section of the rules, whose count stands at `i`, and the end of the table.
-fn finish(t: &[i32], i: usize, atoms: usize, aggregates: usize, starts: [u16; 64]) -> Reading
+fn finish(t: &[i32], i: Cursor, atoms: usize, aggregates: usize, starts: [u16; Table::AGGREGATES]) -> Reading
     ensures { λ r. ⌜ r ≡ finished atoms aggregates starts i (run (rules atoms aggregates) i (drop i (now (t .entry)))) ⌝ }
 {
-    let c = count_at(t, i, Reading::RULES);
+    let c = count_at(t, i, Table::RULES);
     let Got::Number(number, first) = c else {
         return unread(passed(c));
     };
@@ -154,11 +114,11 @@ fn finish(t: &[i32], i: usize, atoms: usize, aggregates: usize, starts: [u16; 64
 pub fn read(words: &[i32]) -> Reading
     ensures { λ r. ⌜ r ≡ readingOf (now (words .entry)) ⌝ }
 {
-    if Reading::WORDS < words.len() {
+    if Table::WORDS < words.len() {
         return unread(Part::Refused(Refusal::TooManyWords));
     }
-    let start = Reading::start();
-    let n = count_at(words, start.at, Reading::ATOMS);
+    let start = Table::start();
+    let n = count_at(words, start, Table::ATOMS);
     let Got::Number(atoms, next) = n else {
         return unread(passed(n));
     };

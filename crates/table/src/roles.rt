@@ -7,10 +7,11 @@ ghost use Rattle.table.specs.Grammar.{one};
 ghost use Rattle.table.specs.Places.{wordOf, gotOf};
 use crate::Got;
 use crate::Next;
+use layout::Cursor;
 use results::Refusal;
 
 // The word at `i` with the next index; "a needed word is absent" where there is none.
-pub fn word_at(t: &[i32], i: usize) -> Next
+pub fn word_at(t: &[i32], i: Cursor) -> Next
     ensures { λ r. ⌜ r ≡ wordOf i (drop i (now (t .entry))) ⌝ }
 {
     if i < t.len() {
@@ -21,7 +22,7 @@ pub fn word_at(t: &[i32], i: usize) -> Next
 }
 
 // A count of 0 to `most` at `i`.
-pub fn count_at(t: &[i32], i: usize, most: usize) -> Got
+pub fn count_at(t: &[i32], i: Cursor, most: usize) -> Got
     ensures { λ r. ⌜ r ≡ gotOf (run (one (count most)) i (drop i (now (t .entry)))) ⌝ }
 {
     let Next::Word(w, next) = word_at(t, i) else {
@@ -38,7 +39,7 @@ pub fn count_at(t: &[i32], i: usize, most: usize) -> Got
 }
 
 // A function, comparison, threshold or value of `low` to `high` at `i`.
-pub fn quantity_at(t: &[i32], i: usize, low: i32, high: i32) -> Got
+pub fn quantity_at(t: &[i32], i: Cursor, low: i32, high: i32) -> Got
     ensures { λ r. ⌜ r ≡ gotOf (run (one (quantity low high)) i (drop i (now (t .entry)))) ⌝ }
 {
     let Next::Word(w, next) = word_at(t, i) else {
@@ -56,7 +57,7 @@ pub fn quantity_at(t: &[i32], i: usize, low: i32, high: i32) -> Got
 
 // A member at `i` of a list whose previous number is `previous`: an atom, or where `signed` an aggregate literal. Its range is tested before
 // the ascent.
-pub fn member_at(t: &[i32], i: usize, signed: bool, top: usize, previous: usize) -> Got
+pub fn member_at(t: &[i32], i: Cursor, signed: bool, top: usize, previous: usize) -> Got
     ensures { λ r. ⌜ r ≡ gotOf (run (one (member signed top previous)) i (drop i (now (t .entry)))) ⌝ }
 {
     let Next::Word(w, next) = word_at(t, i) else {

@@ -6,7 +6,6 @@ use lib.ListN.{drop}
 use Rattle.table.specs.Roles.{count, run}
 use Rattle.table.specs.Grammar.{one}
 use Rattle.table.specs.Places.{gotOf, passedOf, unreadPart}
-use Rattle.table.specs.declared.Cursor.{Cursor}
 use Rattle.table.proofs.Whole.{reading-many, reading-stop, reading-stop2, reading-on}
 use Rattle.table.proofs.read.Statement.{statement}
 use Rattle.table.proofs.read.Tie as tie
@@ -38,7 +37,7 @@ unread-requires-2 c κs = search needs
 -- the first word is read where reading starts
 counted : (c : tie.After-count-at) → gotOf (run (one (count 256)) 0 (c .before .before .before .args .words .now)) ≡ c .count-at .result
 counted c =
-    let z : c .before .start .result .at ≡ 0 = ap (λ (s : Cursor). s .at) (c .before .start .ensures) in
+    let z : c .before .start .result ≡ 0 = c .before .start .ensures in
     let t = c .before .before .before .args .words .now in
     sym (c .count-at .ensures ∙ ap (λ (i : ℕ). gotOf (run (one (count 256)) i (drop i t))) z)
 
