@@ -13,7 +13,7 @@ use Rattle.meaning.specs.Lists.{has}
 use Rattle.meaning.proofs.Cond.{eqCase}
 use Rattle.layout.specs.Layout.{atoms, partAt, Laid}
 use Rattle.layout.specs.declared.Table.{Table}
-use Rattle.heads.specs.Heads.{placesOf, withHead, Counted, Counts, endOf, Ended}
+use Rattle.heads.specs.Heads.{bounds, size, placesOf, withHead, Counted, Counts, endOf, Ended}
 use Rattle.heads.proofs.Walks.{places-length, with-nil, with-split, with-short}
 use Rattle.heads.proofs.Room.{total, total-zero, total-suc}
 
@@ -25,7 +25,7 @@ module _ (a : List ℕ) where
   to p d = cond d (getD a (2 * p + 1) 0 + 1) (getD a (2 * p + 1) 0)
 
   -- none is counted yet
-  pub counted-start : (l : List ℕ) → length a ≡ 17922 → ((p : ℕ) → has p l ≡ false) → Counted l a a
+  pub counted-start : (l : List ℕ) → length a ≡ size → ((p : ℕ) → has p l ≡ false) → Counted l a a
   counted-start l z f = record { sized = z; behind = refl; counts = λ p h. sym (ap (to p) (f p)) }
 
   module _ (l m b : List ℕ) (c : Counted l a b) where
@@ -52,7 +52,7 @@ module _ (a : List ℕ) where
       pub counted-one : Counted m a (set b (2 * x + 1) more)
       counted-one = record {
         sized = length-set b (2 * x + 1) more ∙ c .sized;
-        behind = drop-set-lt 514 b (2 * x + 1) more (omega arith) ∙ c .behind;
+        behind = drop-set-lt bounds b (2 * x + 1) more (omega arith) ∙ c .behind;
         counts = λ p h. more-at p h (eqCase p x);
       }
 
@@ -97,7 +97,7 @@ module _ (t : List ℤ) (tb : Table) where
   P = placesOf t tb
 
   -- no rule is counted yet
-  pub counts-start : (a : List ℕ) → length a ≡ 17922 → take (tb .rules) (drop 514 a) ≡ P → ((i : ℕ) → i < 514 → getD a i 0 ≡ 0) → Counts t tb [] a
+  pub counts-start : (a : List ℕ) → length a ≡ size → take (tb .rules) (drop bounds a) ≡ P → ((i : ℕ) → i < bounds → getD a i 0 ≡ 0) → Counts t tb [] a
   counts-start a z e f = record {
     sized = z;
     places = e;
@@ -157,7 +157,7 @@ module _ (a : List ℕ) (s : ℕ) where
     pub ended-on : Ended s (p + 1) a (set begun (2 * x + 1) e)
     ended-on = record {
       sized = length-set begun (2 * x + 1) e ∙ length-set b (2 * x) e ∙ d .sized;
-      behind = drop-set-lt 514 begun (2 * x + 1) e (omega arith) ∙ drop-set-lt 514 b (2 * x) e (omega arith) ∙ d .behind;
+      behind = drop-set-lt bounds begun (2 * x + 1) e (omega arith) ∙ drop-set-lt bounds b (2 * x) e (omega arith) ∙ d .behind;
       first = ended-other 0 (λ w. omega (arith, w)) (λ w. omega (arith, w)) ∙ d .first;
       begins = λ q k m. ended-begin q k m (eqCase q x);
       ends = λ q m. ended-end q m (eqCase q x);
@@ -170,27 +170,27 @@ module _ (a : List ℕ) (s : ℕ) where
 -- what begins and ends of list 0 change: nothing behind, and no other end
 module _ (a : List ℕ) (s : ℕ) where
   abbrev pub started : List ℕ
-  started = set (set a 0 514) 1 s
+  started = set (set a 0 bounds) 1 s
 
   started-later : (q : ℕ) → 0 < q → getD started (2 * q + 1) 0 ≡ getD a (2 * q + 1) 0
   started-later q h =
-      getD-set-other (set a 0 514) 1 (2 * q + 1) s 0 (λ w. omega (arith, w)) ∙ getD-set-other a 0 (2 * q + 1) 514 0 (λ w. omega (arith, w))
+      getD-set-other (set a 0 bounds) 1 (2 * q + 1) s 0 (λ w. omega (arith, w)) ∙ getD-set-other a 0 (2 * q + 1) bounds 0 (λ w. omega (arith, w))
 
   pub started-end : (p : ℕ) → endOf started s p ≡ endOf a s p
   started-end zero = end-zero started s ∙ sym (end-zero a s)
   started-end (suc p) = omega (arith, end-suc started s p, end-suc a s p, started-end p, started-later (suc p) (omega arith))
 
-  pub started-sized : length a ≡ 17922 → length started ≡ 17922
-  started-sized z = length-set (set a 0 514) 1 s ∙ length-set a 0 514 ∙ z
+  pub started-sized : length a ≡ size → length started ≡ size
+  started-sized z = length-set (set a 0 bounds) 1 s ∙ length-set a 0 bounds ∙ z
 
-  pub started-ended : length a ≡ 17922 → Ended s 0 started started
+  pub started-ended : length a ≡ size → Ended s 0 started started
   started-ended z =
-      let b = set a 0 514 in
-      let y : length b ≡ 17922 = length-set a 0 514 ∙ z in
+      let b = set a 0 bounds in
+      let y : length b ≡ size = length-set a 0 bounds ∙ z in
       record {
         sized = started-sized z;
         behind = refl;
-        first = getD-set-other b 1 0 s 0 (λ q. omega (arith, q)) ∙ getD-set-same a 0 514 0 (omega arith);
+        first = getD-set-other b 1 0 s 0 (λ q. omega (arith, q)) ∙ getD-set-same a 0 bounds 0 (omega arith);
         begins = λ p h k. absurd (omega (arith, h, k));
         ends = λ p h. let e : p ≡ 0 = omega (arith, h) in
             subst (λ (q : ℕ). getD started (2 * q + 1) 0 ≡ endOf started s q) (sym e) (getD-set-same b 1 s 0 (omega arith) ∙ sym (end-zero started s));
@@ -199,7 +199,7 @@ module _ (a : List ℕ) (s : ℕ) where
   pub ended-whole : (n : ℕ) (b : List ℕ) → Ended s n started b → Ended s n a b
   ended-whole n b d = record {
     sized = d .sized;
-    behind = d .behind ∙ drop-set-lt 514 (set a 0 514) 1 s (omega arith) ∙ drop-set-lt 514 a 0 514 (omega arith);
+    behind = d .behind ∙ drop-set-lt bounds (set a 0 bounds) 1 s (omega arith) ∙ drop-set-lt bounds a 0 bounds (omega arith);
     first = d .first;
     begins = λ p h k. d .begins p h k ∙ started-end p;
     ends = λ p h. d .ends p h ∙ started-end p;

@@ -14,7 +14,7 @@ use Rattle.meaning.specs.Lists.{has}
 use Rattle.meaning.proofs.Cond.{eqCase}
 use Rattle.layout.specs.Layout.{atoms, partAt, Members, Laid}
 use Rattle.layout.specs.declared.Table.{Table}
-use Rattle.heads.specs.Heads.{placesOf, withHead, listAt, Holds, Listed, Counts, endOf, Ended, Regions, Room, Put}
+use Rattle.heads.specs.Heads.{bounds, size, placesOf, withHead, listAt, Holds, Listed, Counts, endOf, Ended, Regions, Room, Put}
 use Rattle.heads.proofs.Walks.{places-length, with-nil, with-split, with-here, with-drop, has-zero}
 use Rattle.heads.proofs.Lists.{part}
 use Rattle.heads.proofs.Room.{total, total-zero, total-on, total-rise, total-fits}
@@ -22,7 +22,7 @@ use Rattle.heads.proofs.Counting.{end-zero, end-rise, end-total}
 
 pub record Placed (t : List ℤ) (tb : Table) (l a : List ℕ) : Type 0 where
   pub regions : Regions a
-  pub ends : (p : ℕ) → p ≤ 256 → getD a (2 * p + 1) 0 ≡ 514 + tb .rules + total t (placesOf t tb) p
+  pub ends : (p : ℕ) → p ≤ 256 → getD a (2 * p + 1) 0 ≡ bounds + tb .rules + total t (placesOf t tb) p
   pub all : listAt a 0 ≡ placesOf t tb
   pub each : (p : ℕ) → 1 ≤ p → p ≤ 256 → listAt a p ≡ withHead t p l
 
@@ -34,12 +34,12 @@ module _ (t : List ℤ) (tb : Table) (laid : Laid t tb) where
 
   module _ (a : List ℕ) (c : Counts t tb P a) where
     -- all lists fit
-    pub fits : (p : ℕ) → p ≤ 256 → endOf a (514 + tb .rules) p ≤ 17922
-    fits p h = omega (arith, end-total t tb a c (514 + tb .rules) p h, total-fits t tb laid p, laid .fewRules)
+    pub fits : (p : ℕ) → p ≤ 256 → endOf a (bounds + tb .rules) p ≤ size
+    fits p h = omega (arith, end-total t tb a c (bounds + tb .rules) p h, total-fits t tb laid p, laid .fewRules)
 
-    module _ (b : List ℕ) (d : Ended (514 + tb .rules) 256 a b) where
+    module _ (b : List ℕ) (d : Ended (bounds + tb .rules) 256 a b) where
       abbrev s : ℕ
-      s = 514 + tb .rules
+      s = bounds + tb .rules
 
       -- lists 1 .. 256 are empty
       none : (p : ℕ) → 1 ≤ p → p ≤ 256 → getD b (2 * p) 0 ≡ getD b (2 * p + 1) 0
@@ -63,8 +63,8 @@ module _ (t : List ℤ) (tb : Table) (laid : Laid t tb) where
 
       start-all : listAt b 0 ≡ P
       start-all =
-          let n : s - 514 ≡ tb .rules = omega arith in
-          ap (λ (k : ℕ). part b k (getD b 1 0 - k)) (d .first) ∙ ap (λ (k : ℕ). part b 514 (k - 514)) start-end ∙ ap (part b 514) n ∙ ap (take (tb .rules)) (d .behind) ∙ c .places
+          let n : s - bounds ≡ tb .rules = omega arith in
+          ap (λ (k : ℕ). part b k (getD b 1 0 - k)) (d .first) ∙ ap (λ (k : ℕ). part b bounds (k - bounds)) start-end ∙ ap (part b bounds) n ∙ ap (take (tb .rules)) (d .behind) ∙ c .places
 
       start-each : (p : ℕ) → 1 ≤ p → p ≤ 256 → listAt b p ≡ withHead t p []
       start-each p l h =
@@ -128,10 +128,10 @@ module _ (t : List ℤ) (tb : Table) (laid : Laid t tb) where
 
   module _ (l a : List ℕ) (f : Placed t tb l a) where
     -- where the rules stand
-    pub placed-places : part a 514 (tb .rules) ≡ P
+    pub placed-places : part a bounds (tb .rules) ≡ P
     placed-places =
-        let n : getD a 1 0 - 514 ≡ tb .rules = omega (arith, f .ends 0 (omega arith), total-zero t P) in
-        ap (part a 514) (sym n) ∙ ap (λ (k : ℕ). part a k (getD a 1 0 - k)) (sym (f .regions .first)) ∙ f .all
+        let n : getD a 1 0 - bounds ≡ tb .rules = omega (arith, f .ends 0 (omega arith), total-zero t P) in
+        ap (part a bounds) (sym n) ∙ ap (λ (k : ℕ). part a k (getD a 1 0 - k)) (sym (f .regions .first)) ∙ f .all
 
     holds : (p : ℕ) (w : List ℕ) → p ≤ 256 → listAt a p ≡ w → Holds a p w
     holds p w h e = record {

@@ -10,7 +10,7 @@ use lib.ListN.{length, getD, take, drop, set, length-set}
 use lib.Seq.{getD-set-same, getD-set-other, drop-set-lt, drop-set-add, take-set-le, drop-cons}
 use Rattle.meaning.specs.Lists.{has}
 use Rattle.meaning.proofs.Cond.{eqCase, ltCase}
-use Rattle.heads.specs.Heads.{listAt, Regions, Put}
+use Rattle.heads.specs.Heads.{bounds, size, listAt, Regions, Put}
 use Rattle.heads.proofs.Lists.{part}
 
 -- a part that ends before the index that is written
@@ -29,20 +29,20 @@ module _ (b : List ℕ) (R : Regions b) (x i : ℕ) (low : 1 ≤ x) (small : x �
   c = set (set b f i) (2 * x) f
 
   -- the word before the list lies behind the header, and there is one
-  above : 514 ≤ f
+  above : bounds ≤ f
   above = omega (arith, room 0 (omega arith), R .first, R .ordered 0 (omega arith))
 
   is-one : f + 1 ≡ getD b (2 * x) 0
   is-one = omega (arith, above)
 
-  front-within : f < 17922
+  front-within : f < size
   front-within = omega (arith, is-one, R .ordered x small, R .fits x small)
 
-  sized : length (set b f i) ≡ 17922
+  sized : length (set b f i) ≡ size
   sized = length-set b f i ∙ R .sized
 
   -- the header
-  word-other : (j : ℕ) → j < 514 → j ≢ 2 * x → getD c j 0 ≡ getD b j 0
+  word-other : (j : ℕ) → j < bounds → j ≢ 2 * x → getD c j 0 ≡ getD b j 0
   word-other j h n = getD-set-other (set b f i) (2 * x) j f 0 n ∙ getD-set-other b f j i 0 (λ e. omega (arith, e, above))
 
   front-end : (p : ℕ) → p ≤ 256 → getD c (2 * p + 1) 0 ≡ getD b (2 * p + 1) 0
@@ -55,11 +55,11 @@ module _ (b : List ℕ) (R : Regions b) (x i : ℕ) (low : 1 ≤ x) (small : x �
   front-begin-other p h n = word-other (2 * p) (omega arith) (λ e. n (omega (arith, e)))
 
   -- every list lies behind the header
-  behind : (p : ℕ) → p ≤ 256 → 514 ≤ getD b (2 * p) 0
+  behind : (p : ℕ) → p ≤ 256 → bounds ≤ getD b (2 * p) 0
   behind p h = at (eqCase p 0)
     where
-      at : (p ≡ 0) ⊎ (p ≢ 0) → 514 ≤ getD b (2 * p) 0
-      at (inl e) = subst (λ (q : ℕ). 514 ≤ getD b (2 * q) 0) (sym e) (omega (arith, R .first))
+      at : (p ≡ 0) ⊎ (p ≢ 0) → bounds ≤ getD b (2 * p) 0
+      at (inl e) = subst (λ (q : ℕ). bounds ≤ getD b (2 * q) 0) (sym e) (omega (arith, R .first))
       at (inr n) = omega (arith, R .first, R .ordered 0 (omega arith), R .apart 0 p (omega (arith, n)) h)
 
   -- the lists
@@ -146,7 +146,7 @@ module _ (a : List ℕ) (i : ℕ) where
       still q h = omega (arith, fresh, u .ends q (omega arith), room q h)
 
       -- the list begins behind the header, past a free word at least, and within the array
-      pub put-within : (514 < getD b (2 * x) 0) × (getD b (2 * x) 0 ≤ 17922)
+      pub put-within : (bounds < getD b (2 * x) 0) × (getD b (2 * x) 0 ≤ size)
       put-within = (omega (arith, still 0 (omega arith), u .regions .first, u .regions .ordered 0 (omega arith)), omega (arith, u .regions .ordered x small, u .regions .fits x small))
 
       module _ (here : has x m ≡ true) (other : (p : ℕ) → p ≢ x → has p m ≡ has p l) where

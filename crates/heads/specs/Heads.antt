@@ -1,5 +1,6 @@
 -- The rules that have an atom in the head, as the code keeps them: a rule is named by the index at which it begins. Definitions only; they need not
 -- be believed: `proofs/Laws.antt` ties them to the program that a table stands for.
+--   bounds, size       how many words say where lists begin and end, and how many there are in all
 --   placesFrom t i n   where each of the n rules from i on begins
 --   withHead t p l     those of the rules at l that have p in the head, in the same order
 --   listAt a k         list k of the array a
@@ -9,7 +10,7 @@
 --   Counts t tb l a    all rules stand in list 0's place, and at 2p + 1 the number of the rules at l that have p in the head
 --   endOf a s p        where list p ends, by the counts of a, list 0 ending at s
 --   Ended s n a b      b is a with the ends of lists 0 .. n in the place of their counts; all but list 0 are empty
---   Regions a          the lists lie one after the other, the first from index 514 on
+--   Regions a          the lists lie one after the other, the first from index `bounds` on
 --   Room l a           there is a free word before the list of each p of l
 --   Put l i a b        b is a after rule i is put at the front of the list of each p of l
 -- Assumes nothing.
@@ -22,6 +23,14 @@ use lib.ListN.{length, getD, take, drop}
 use Rattle.meaning.specs.Lists.{has}
 use Rattle.layout.specs.Layout.{pastRule, ruleAt, RuleLies}
 use Rattle.layout.specs.declared.Table.{Table}
+
+-- two for list 0 and two for each of 256 atoms
+abbrev pub bounds : ℕ
+bounds = 514
+
+-- those, one for each of 1,024 rules, and one for each atom of a head, of which there are fewer than 16,384
+abbrev pub size : ℕ
+size = 17922
 
 unfoldable pub placesFrom : List ℤ → ℕ → ℕ → List ℕ
 placesFrom t i zero = []
@@ -48,20 +57,20 @@ pub record Holds (a : List ℕ) (k : ℕ) (l : List ℕ) : Type 0 where
   pub same : listAt a k ≡ l
 
 pub record Listed (t : List ℤ) (tb : Table) (a : List ℕ) : Type 0 where
-  pub long : length a ≡ 17922
+  pub long : length a ≡ size
   pub all : Holds a 0 (placesOf t tb)
   pub each : (p : ℕ) → 1 ≤ p → p ≤ tb .atoms → Holds a p (withHead t p (placesOf t tb))
 
 -- ---- counting
 
 pub record Counted (l : List ℕ) (a b : List ℕ) : Type 0 where
-  pub sized : length b ≡ 17922
-  pub behind : drop 514 b ≡ drop 514 a
+  pub sized : length b ≡ size
+  pub behind : drop bounds b ≡ drop bounds a
   pub counts : (p : ℕ) → p ≤ 256 → getD b (2 * p + 1) 0 ≡ cond (has p l) (getD a (2 * p + 1) 0 + 1) (getD a (2 * p + 1) 0)
 
 pub record Counts (t : List ℤ) (tb : Table) (l : List ℕ) (a : List ℕ) : Type 0 where
-  pub sized : length a ≡ 17922
-  pub places : take (tb .rules) (drop 514 a) ≡ placesOf t tb
+  pub sized : length a ≡ size
+  pub places : take (tb .rules) (drop bounds a) ≡ placesOf t tb
   pub counts : (p : ℕ) → p ≤ 256 → getD a (2 * p + 1) 0 ≡ length (withHead t p l)
 
 unfoldable pub endOf : List ℕ → ℕ → ℕ → ℕ
@@ -69,20 +78,20 @@ endOf a s zero = s
 endOf a s (suc p) = endOf a s p + getD a (2 * suc p + 1) 0
 
 pub record Ended (s n : ℕ) (a b : List ℕ) : Type 0 where
-  pub sized : length b ≡ 17922
-  pub behind : drop 514 b ≡ drop 514 a
-  pub first : getD b 0 0 ≡ 514
+  pub sized : length b ≡ size
+  pub behind : drop bounds b ≡ drop bounds a
+  pub first : getD b 0 0 ≡ bounds
   pub begins : (p : ℕ) → 1 ≤ p → p ≤ n → getD b (2 * p) 0 ≡ endOf a s p
   pub ends : (p : ℕ) → p ≤ n → getD b (2 * p + 1) 0 ≡ endOf a s p
 
 -- ---- putting
 
 pub record Regions (a : List ℕ) : Type 0 where
-  pub sized : length a ≡ 17922
-  pub first : getD a 0 0 ≡ 514
+  pub sized : length a ≡ size
+  pub first : getD a 0 0 ≡ bounds
   pub ordered : (p : ℕ) → p ≤ 256 → getD a (2 * p) 0 ≤ getD a (2 * p + 1) 0
   pub apart : (p q : ℕ) → p < q → q ≤ 256 → getD a (2 * p + 1) 0 ≤ getD a (2 * q) 0
-  pub fits : (p : ℕ) → p ≤ 256 → getD a (2 * p + 1) 0 ≤ 17922
+  pub fits : (p : ℕ) → p ≤ 256 → getD a (2 * p + 1) 0 ≤ size
 
 abbrev pub Room : List ℕ → List ℕ → Type 0
 Room l a = (p q : ℕ) → p ≤ 256 → has p l ≡ true → q < p → getD a (2 * q + 1) 0 < getD a (2 * p) 0

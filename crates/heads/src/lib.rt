@@ -9,11 +9,17 @@ ghost use Prim.Native.Nat.{ℕ, _+_, _*_, _≤_, _<_};
 ghost use lib.ListN.{length, getD, take, drop};
 ghost use Rattle.meaning.specs.Lists.{has};
 ghost use Rattle.layout.specs.Layout.{atoms, Members, Laid};
-ghost use Rattle.heads.specs.Heads.{placesOf, listAt, Listed, Counted, Counts, endOf, Ended, Regions, Room, Put};
+ghost use Rattle.heads.specs.Heads.{bounds, size, placesOf, listAt, Listed, Counted, Counts, endOf, Ended, Regions, Room, Put};
 use layout::Table;
 
+// The words that say where lists begin and end: two for list 0 and two for each atom.
+pub const BOUNDS: usize = 2 * (Table::ATOMS + 1);
+
+// All words: those, one for each rule, and one for each atom of a head, of which there are fewer than words of the table.
+pub const SIZE: usize = BOUNDS + Table::RULES + Table::WORDS;
+
 // The lists of a table.
-pub type Lists = [u16; 17922];
+pub type Lists = [u16; SIZE];
 
 // List p, as a part of the lists.
 pub fn list(lists: &[u16], p: usize) -> &[u16]
@@ -43,26 +49,26 @@ pub fn has_atom(l: &[i32], p: usize) -> bool
 
 // The words that say where lists begin and end, all 0.
 pub fn clear(lists: &mut [u16])
-    requires { ⌜ length (now lists) ≡ 17922 ⌝ }
-    ensures { λ _. ⌜ (length (now (lists .exit)) ≡ 17922) × ((i : ℕ) → i < 514 → getD (now (lists .exit)) i 0 ≡ 0) ⌝ }
+    requires { ⌜ length (now lists) ≡ size ⌝ }
+    ensures { λ _. ⌜ (length (now (lists .exit)) ≡ size) × ((i : ℕ) → i < bounds → getD (now (lists .exit)) i 0 ≡ 0) ⌝ }
 {
     let mut i: usize = 0;
-    while i < 514 {
+    while i < BOUNDS {
         lists[i] = 0;
         i += 1;
     }
 }
 
-// Where each rule begins, written from index 514 on: list 0.
+// Where each rule begins, written from index `BOUNDS` on: list 0.
 pub fn rules(t: &[i32], tb: Table, lists: &mut [u16])
-    requires { ⌜ Laid (now t) tb × (length (now lists) ≡ 17922) ⌝ }
-    ensures { λ _. ⌜ (length (now (lists .exit)) ≡ 17922) × (take 514 (now (lists .exit)) ≡ take 514 (now (lists .entry)))
-        × (take (tb .rules) (drop 514 (now (lists .exit))) ≡ placesOf (now (t .entry)) tb) ⌝ }
+    requires { ⌜ Laid (now t) tb × (length (now lists) ≡ size) ⌝ }
+    ensures { λ _. ⌜ (length (now (lists .exit)) ≡ size) × (take bounds (now (lists .exit)) ≡ take bounds (now (lists .entry)))
+        × (take (tb .rules) (drop bounds (now (lists .exit))) ≡ placesOf (now (t .entry)) tb) ⌝ }
 {
     let mut at = tb.first;
     let mut i: usize = 0;
     while i < tb.rules {
-        let place = 514 + i;
+        let place = BOUNDS + i;
         lists[place] = at as u16;
         let next = layout::past_rule(t, at);
         at = next;
@@ -73,7 +79,7 @@ pub fn rules(t: &[i32], tb: Table, lists: &mut [u16])
 // One rule counted: for each atom of its head, one more at the index where its list's end will stand. An atom that stands again later in the head is
 // counted there.
 pub fn count_head(head: &[i32], lists: &mut [u16])
-    requires { ⌜ Members 256 (now head) × (length (now lists) ≡ 17922) × ((p : ℕ) → p ≤ 256 → getD (now lists) (2 * p + 1) 0 ≤ 1024) ⌝ }
+    requires { ⌜ Members 256 (now head) × (length (now lists) ≡ size) × ((p : ℕ) → p ≤ 256 → getD (now lists) (2 * p + 1) 0 ≤ 1024) ⌝ }
     ensures { λ _. ⌜ Counted (atoms (now (head .entry))) (now (lists .entry)) (now (lists .exit)) ⌝ }
 {
     let mut i = head.len();
@@ -97,7 +103,7 @@ pub fn count(t: &[i32], tb: Table, lists: &mut [u16])
     while counted < tb.rules {
         counted += 1;
         let r = tb.rules - counted;
-        let place = 514 + r;
+        let place = BOUNDS + r;
         let at = lists[place] as usize;
         let head = layout::part(t, at);
         count_head(head, lists);
@@ -106,14 +112,14 @@ pub fn count(t: &[i32], tb: Table, lists: &mut [u16])
 
 // From the counts, where each list ends; so far it begins there too. List 0 is whole.
 pub fn ends(rules: usize, lists: &mut [u16])
-    requires { ⌜ (length (now lists) ≡ 17922) × (endOf (now lists) (514 + rules) 256 ≤ 17922) ⌝ }
-    ensures { λ _. ⌜ Ended (514 + rules) 256 (now (lists .entry)) (now (lists .exit)) ⌝ }
+    requires { ⌜ (length (now lists) ≡ size) × (endOf (now lists) (bounds + rules) 256 ≤ size) ⌝ }
+    ensures { λ _. ⌜ Ended (bounds + rules) 256 (now (lists .entry)) (now (lists .exit)) ⌝ }
 {
-    let mut end = 514 + rules;
-    lists[0] = 514;
+    let mut end = BOUNDS + rules;
+    lists[0] = BOUNDS as u16;
     lists[1] = end as u16;
     let mut p: usize = 0;
-    while p < 256 {
+    while p < Table::ATOMS {
         p += 1;
         let begins = 2 * p;
         let ends = begins + 1;
@@ -146,14 +152,14 @@ pub fn put_head(head: &[i32], rule: u16, lists: &mut [u16])
 
 // All rules put into their lists, from the last to the first, where each list is empty and its end is known.
 pub fn put_rules(t: &[i32], tb: Table, lists: &mut [u16])
-    requires { ⌜ Laid (now t) tb × ((a : List ℕ) × Counts (now t) tb (placesOf (now t) tb) a × Ended (514 + tb .rules) 256 a (now lists)) ⌝ }
+    requires { ⌜ Laid (now t) tb × ((a : List ℕ) × Counts (now t) tb (placesOf (now t) tb) a × Ended (bounds + tb .rules) 256 a (now lists)) ⌝ }
     ensures { λ _. ⌜ Listed (now (t .entry)) tb (now (lists .exit)) ⌝ }
 {
     let mut done: usize = 0;
     while done < tb.rules {
         done += 1;
         let r = tb.rules - done;
-        let place = 514 + r;
+        let place = BOUNDS + r;
         let rule = lists[place];
         let at = rule as usize;
         let head = layout::part(t, at);
@@ -163,7 +169,7 @@ pub fn put_rules(t: &[i32], tb: Table, lists: &mut [u16])
 
 // The lists of an accepted table.
 pub fn fill(t: &[i32], tb: Table, lists: &mut [u16])
-    requires { ⌜ Laid (now t) tb × (length (now lists) ≡ 17922) ⌝ }
+    requires { ⌜ Laid (now t) tb × (length (now lists) ≡ size) ⌝ }
     ensures { λ _. ⌜ Listed (now (t .entry)) tb (now (lists .exit)) ⌝ }
 {
     clear(lists);

@@ -83,7 +83,13 @@ fn unread(end: Part) -> Reading
 }
 
 // The section of the rules, whose count stands at `i`, and the end of the table.
-fn finish(t: &[i32], i: Cursor, atoms: usize, aggregates: usize, starts: [u16; Table::AGGREGATES]) -> Reading
+fn finish(
+    t: &[i32],
+    i: Cursor,
+    atoms: usize,
+    aggregates: usize,
+    starts: [u16; Table::AGGREGATES],
+) -> Reading
     ensures { λ r. ⌜ r ≡ finished atoms aggregates starts i (run (rules atoms aggregates) i (drop i (now (t .entry)))) ⌝ }
 {
     let c = count_at(t, i, Table::RULES);

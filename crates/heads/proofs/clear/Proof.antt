@@ -4,15 +4,16 @@ use mathlib.Core.Path.{_≡_, sym, _∙_}
 use Prim.Native.Nat.{ℕ, _-_, _≤_, _<_}
 use native.Mathlib.Omega.{arith}
 use lib.ListN.{length, getD, length-set}
+use Rattle.heads.specs.Heads.{bounds, size}
 use Rattle.heads.proofs.Lists.{zero-on}
 use Rattle.heads.proofs.clear.Statement.{statement}
 use Rattle.heads.proofs.clear.Tie as tie
 
 abbrev Inv-loop : tie.InvT-loop
-Inv-loop lists₀ i₀ lists i = (i ≤ 514) × (length lists ≡ 17922) × ((k : ℕ) → k < i → getD lists k 0 ≡ 0)
+Inv-loop lists₀ i₀ lists i = (i ≤ bounds) × (length lists ≡ size) × ((k : ℕ) → k < i → getD lists k 0 ≡ 0)
 
 abbrev μ-loop : tie.MeasureT-loop
-μ-loop lists₀ i₀ lists i = 514 - i
+μ-loop lists₀ i₀ lists i = bounds - i
 
 loop-holds : tie.Need-loop-holds Inv-loop μ-loop
 loop-holds c = (omega arith, c .pre, λ k h. absurd (omega (arith, h)))

@@ -8,7 +8,7 @@ use native.Mathlib.Omega.{arith}
 use lib.IntN.{ℤ}
 use lib.ListN.{getD, drop, drop-of-length-le}
 use Rattle.layout.specs.Layout.{atoms, partAt, Members, RuleLies}
-use Rattle.heads.specs.Heads.{placesOf, Counted, Counts}
+use Rattle.heads.specs.Heads.{bounds, placesOf, Counted, Counts}
 use Rattle.heads.proofs.Laws.{places-lie}
 use Rattle.heads.proofs.Walks.{places-length}
 use Rattle.heads.proofs.Lists.{part-word}
@@ -33,15 +33,15 @@ loop-holds c =
 
 -- the place at hand is that of the last rule to come
 read : (c : tie.Then1 Inv-loop μ-loop) → let l = c .before .before .loop in let a = c .before .before .before .before .args in
-    getD (l .lists) (514 + (a .tb .rules - (l .counted + 1))) 0 ≡ getD (placesOf (a .t .now) (a .tb)) (a .tb .rules - (l .counted + 1)) 0
+    getD (l .lists) (bounds + (a .tb .rules - (l .counted + 1))) 0 ≡ getD (placesOf (a .t .now) (a .tb)) (a .tb .rules - (l .counted + 1)) 0
 read c =
     let l = c .before .before .loop in
     let a = c .before .before .before .before .args in
-    part-word (l .lists) 514 (a .tb .rules) (a .tb .rules - (l .counted + 1)) (placesOf (a .t .now) (a .tb)) (l .inv .1 .places) (omega (arith, c .if1 .taken))
+    part-word (l .lists) bounds (a .tb .rules) (a .tb .rules - (l .counted + 1)) (placesOf (a .t .now) (a .tb)) (l .inv .1 .places) (omega (arith, c .if1 .taken))
 
 -- that rule lies in the table
 lies : (c : tie.Then1 Inv-loop μ-loop) → let l = c .before .before .loop in let a = c .before .before .before .before .args in
-    RuleLies (a .tb .atoms) (a .tb .aggregates) (a .t .now) (getD (l .lists) (514 + (a .tb .rules - (l .counted + 1))) 0)
+    RuleLies (a .tb .atoms) (a .tb .aggregates) (a .t .now) (getD (l .lists) (bounds + (a .tb .rules - (l .counted + 1))) 0)
 lies c =
     let l = c .before .before .loop in
     let s = c .before .before .before .before in

@@ -6,6 +6,7 @@ use Prim.Native.Nat.{ℕ, _<_}
 use native.Mathlib.Omega.{arith}
 use lib.ListN.{getD}
 use lib.Seq.{getD-take}
+use Rattle.heads.specs.Heads.{bounds}
 use Rattle.heads.proofs.Counting.{counts-start}
 use Rattle.heads.proofs.Placing.{fits}
 use Rattle.heads.proofs.fill.Statement.{statement}
@@ -26,7 +27,7 @@ count-requires c κs =
     let a = z .clear .last .0 in
     let b = r .rules .last .1 .1 .0 in
     let e = r .rules .ensures in
-    let zeros : (i : ℕ) → i < 514 → getD b i 0 ≡ 0 = λ i h. sym (getD-take 514 b i 0 h) ∙ ap (λ (l : List ℕ). getD l i 0) (e .1) ∙ getD-take 514 a i 0 h ∙ z .clear .ensures .1 i h in
+    let zeros : (i : ℕ) → i < bounds → getD b i 0 ≡ 0 = λ i h. sym (getD-take bounds b i 0 h) ∙ ap (λ (l : List ℕ). getD l i 0) (e .1) ∙ getD-take bounds a i 0 h ∙ z .clear .ensures .1 i h in
     (s .pre .0, counts-start t (s .args .tb) b (e .0) (e .2) zeros)
 
 ends-requires : tie.Need-ends-requires

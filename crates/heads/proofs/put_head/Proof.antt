@@ -12,7 +12,7 @@ use lib.Seq.{lt-length-set}
 use Rattle.meaning.specs.Lists.{has}
 use Rattle.meaning.proofs.Tools.{not-is, not-false}
 use Rattle.layout.specs.Layout.{atoms}
-use Rattle.heads.specs.Heads.{Put}
+use Rattle.heads.specs.Heads.{bounds, size, Put}
 use Rattle.heads.proofs.Walks.{has-end, has-from, from-on, back-here, back-other, back-again}
 use Rattle.heads.proofs.Putting.{put-start, put-again, put-within, put-one}
 use Rattle.heads.proofs.put_head.Statement.{statement}
@@ -70,7 +70,7 @@ new c = asked (c .before) ∙ not-is (c .before .has-atom .result) (c .if1 .take
 
 -- the list begins behind the header, past a free word at least, and within the array
 within : (c : tie.Then1 Inv-loop μ-loop) → let b = c .before .before .before .before in let x = c .before .before .atom .result in
-    (514 < getD (b .before .loop .lists) (2 * x) 0) × (getD (b .before .loop .lists) (2 * x) 0 ≤ 17922)
+    (bounds < getD (b .before .loop .lists) (2 * x) 0) × (getD (b .before .loop .lists) (2 * x) 0 ≤ size)
 within c =
     let d = c .before .before in
     let b = d .before .before in

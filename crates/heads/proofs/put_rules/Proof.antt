@@ -8,7 +8,7 @@ use native.Mathlib.Omega.{arith}
 use lib.IntN.{ℤ}
 use lib.ListN.{getD, drop, drop-of-length-le}
 use Rattle.layout.specs.Layout.{atoms, partAt, Members, RuleLies}
-use Rattle.heads.specs.Heads.{placesOf, Room, Put}
+use Rattle.heads.specs.Heads.{bounds, placesOf, Room, Put}
 use Rattle.heads.proofs.Laws.{places-lie}
 use Rattle.heads.proofs.Walks.{places-length}
 use Rattle.heads.proofs.Lists.{part-word}
@@ -34,18 +34,18 @@ loop-holds c =
 
 -- the place at hand is that of the last rule to come
 read : (c : tie.Then1 Inv-loop μ-loop) → let l = c .before .before .loop in let a = c .before .before .before .before .args in
-    getD (l .lists) (514 + (a .tb .rules - (l .done + 1))) 0 ≡ getD (placesOf (a .t .now) (a .tb)) (a .tb .rules - (l .done + 1)) 0
+    getD (l .lists) (bounds + (a .tb .rules - (l .done + 1))) 0 ≡ getD (placesOf (a .t .now) (a .tb)) (a .tb .rules - (l .done + 1)) 0
 read c =
     let l = c .before .before .loop in
     let s = c .before .before .before .before in
     let a = s .args in
     let P = placesOf (a .t .now) (a .tb) in
     let all = placed-places (a .t .now) (a .tb) (s .pre .0) (drop (a .tb .rules - l .done) P) (l .lists) (l .inv .1) in
-    part-word (l .lists) 514 (a .tb .rules) (a .tb .rules - (l .done + 1)) P all (omega (arith, c .if1 .taken))
+    part-word (l .lists) bounds (a .tb .rules) (a .tb .rules - (l .done + 1)) P all (omega (arith, c .if1 .taken))
 
 -- that rule lies in the table
 lies : (c : tie.Then1 Inv-loop μ-loop) → let l = c .before .before .loop in let a = c .before .before .before .before .args in
-    RuleLies (a .tb .atoms) (a .tb .aggregates) (a .t .now) (getD (l .lists) (514 + (a .tb .rules - (l .done + 1))) 0)
+    RuleLies (a .tb .atoms) (a .tb .aggregates) (a .t .now) (getD (l .lists) (bounds + (a .tb .rules - (l .done + 1))) 0)
 lies c =
     let l = c .before .before .loop in
     let s = c .before .before .before .before in
@@ -120,7 +120,7 @@ loop-again c =
     let low : Members (a .tb .atoms) (partAt t i) = subst (λ (j : ℕ). Members (a .tb .atoms) (partAt t j)) (read b) (lies b .heads .members) in
     let put : Put (atoms (partAt t i)) i (l .lists) (d .put-head .last .1 .1 .0) =
     subst (λ (j : ℕ). Put (atoms (partAt t i)) j (l .lists) (d .put-head .last .1 .1 .0)) (read b)
-    (subst (λ (m : List ℤ). Put (atoms m) (getD (l .lists) (514 + k) 0) (l .lists) (d .put-head .last .1 .1 .0)) (head p) (d .put-head .ensures)) in (
+    (subst (λ (m : List ℤ). Put (atoms m) (getD (l .lists) (bounds + k) 0) (l .lists) (d .put-head .last .1 .1 .0)) (head p) (d .put-head .ensures)) in (
       omega (arith, b .if1 .taken),
       placed-on t (a .tb) (s .pre .0) k (omega (arith, b .if1 .taken)) (l .lists) (later b) (a .tb .atoms) low (d .put-head .last .1 .1 .0) put,
     )

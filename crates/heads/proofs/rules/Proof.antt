@@ -1,4 +1,4 @@
--- `heads::rules` meets its contract. The invariant of its loop: the places that stand from index 514 on, and those of the rules to come, are the places of
+-- `heads::rules` meets its contract. The invariant of its loop: the places that stand from index bounds on, and those of the rules to come, are the places of
 -- all rules; the words before stay. The measure is the number of rules to come. Assumes nothing.
 use borrow.Author.Needs.{needs}
 use mathlib.Core.Path.{_≡_, refl, sym, ap, _∙_, subst}
@@ -8,7 +8,7 @@ use native.Mathlib.Omega.{arith}
 use lib.ListN.{length, take, set, length-set}
 use lib.Seq.{take-set-le}
 use Rattle.layout.specs.Layout.{pastRule, RuleLies, RulesLie}
-use Rattle.heads.specs.Heads.{placesFrom, placesOf}
+use Rattle.heads.specs.Heads.{bounds, size, placesFrom, placesOf}
 use Rattle.layout.proofs.Rounds.{lies-on}
 use Rattle.heads.proofs.Walks.{places-on, places-zero}
 use Rattle.heads.proofs.Lists.{part, moved}
@@ -17,8 +17,8 @@ use Rattle.heads.proofs.rules.Tie as tie
 
 abbrev Inv-loop : tie.InvT-loop
 Inv-loop t tb lists₀ at₀ i₀ lists at i =
-    (i ≤ tb .rules) × (length lists ≡ 17922) × (take 514 lists ≡ take 514 lists₀) × RulesLie (tb .atoms) (tb .aggregates) t at (tb .rules - i)
-    × (part lists 514 i ++ placesFrom t at (tb .rules - i) ≡ placesOf t tb)
+    (i ≤ tb .rules) × (length lists ≡ size) × (take bounds lists ≡ take bounds lists₀) × RulesLie (tb .atoms) (tb .aggregates) t at (tb .rules - i)
+    × (part lists bounds i ++ placesFrom t at (tb .rules - i) ≡ placesOf t tb)
 
 abbrev μ-loop : tie.MeasureT-loop
 μ-loop t tb lists₀ at₀ i₀ lists at i = tb .rules - i
@@ -68,17 +68,17 @@ loop-again c =
     let a = s .args in
     let t = a .t .now in
     let e : a .tb .rules - l .i - 1 ≡ a .tb .rules - (l .i + 1) = omega arith in
-    let h : 514 + l .i < length (l .lists) = omega (arith, b .if1 .taken, l .inv .1, s .pre .0 .fewRules) in
+    let h : bounds + l .i < length (l .lists) = omega (arith, b .if1 .taken, l .inv .1, s .pre .0 .fewRules) in
     let r : pastRule t (l .at) ≡ c .past-rule .result = sym (c .past-rule .ensures) in (
       omega (arith, b .if1 .taken),
-      length-set (l .lists) (514 + l .i) (l .at) ∙ l .inv .1,
-      take-set-le 514 (l .lists) (514 + l .i) (l .at) (omega arith) ∙ l .inv .2,
+      length-set (l .lists) (bounds + l .i) (l .at) ∙ l .inv .1,
+      take-set-le bounds (l .lists) (bounds + l .i) (l .at) (omega arith) ∙ l .inv .2,
       subst (λ (n : ℕ). RulesLie (a .tb .atoms) (a .tb .aggregates) t (c .past-rule .result) n) e
           (subst (λ (j : ℕ). RulesLie (a .tb .atoms) (a .tb .aggregates) t j (a .tb .rules - l .i - 1)) r (lies b .1)),
-      ap (λ (n : ℕ). part (set (l .lists) (514 + l .i) (l .at)) 514 (l .i + 1) ++ placesFrom t (c .past-rule .result) n) (sym e)
-          ∙ ap (λ (j : ℕ). part (set (l .lists) (514 + l .i) (l .at)) 514 (l .i + 1) ++ placesFrom t j (a .tb .rules - l .i - 1)) (sym r)
-          ∙ moved (l .lists) 514 (l .i) (l .at) (placesFrom t (pastRule t (l .at)) (a .tb .rules - l .i - 1)) (placesOf t (a .tb)) h
-          (ap (λ (m : List ℕ). part (l .lists) 514 (l .i) ++ m) (sym (places-on t (l .at) (a .tb .rules - l .i) (omega (arith, b .if1 .taken)))) ∙ l .inv .4),
+      ap (λ (n : ℕ). part (set (l .lists) (bounds + l .i) (l .at)) bounds (l .i + 1) ++ placesFrom t (c .past-rule .result) n) (sym e)
+          ∙ ap (λ (j : ℕ). part (set (l .lists) (bounds + l .i) (l .at)) bounds (l .i + 1) ++ placesFrom t j (a .tb .rules - l .i - 1)) (sym r)
+          ∙ moved (l .lists) bounds (l .i) (l .at) (placesFrom t (pastRule t (l .at)) (a .tb .rules - l .i - 1)) (placesOf t (a .tb)) h
+          (ap (λ (m : List ℕ). part (l .lists) bounds (l .i) ++ m) (sym (places-on t (l .at) (a .tb .rules - l .i) (omega (arith, b .if1 .taken)))) ∙ l .inv .4),
     )
 
 same-length : tie.Need-same-length Inv-loop μ-loop
@@ -94,8 +94,8 @@ returns c =
     let t = a .t .now in (
       l .inv .1,
       l .inv .2,
-      ap (part (l .lists) 514) (sym e) ∙ sym (append-nil (part (l .lists) 514 (l .i)))
-          ∙ ap (λ (m : List ℕ). part (l .lists) 514 (l .i) ++ m) (sym (ap (placesFrom t (l .at)) z ∙ places-zero t (l .at)))
+      ap (part (l .lists) bounds) (sym e) ∙ sym (append-nil (part (l .lists) bounds (l .i)))
+          ∙ ap (λ (m : List ℕ). part (l .lists) bounds (l .i) ++ m) (sym (ap (placesFrom t (l .at)) z ∙ places-zero t (l .at)))
           ∙ l .inv .4,
     )
 
