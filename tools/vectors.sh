@@ -10,6 +10,6 @@ cd "$(dirname "$0")/.."
 mkdir -p target/bench
 rustc -O --edition 2021 bench/src/check.rs -o target/bench/check
 python3 tools/cases.py "$out"
-python3 tools/lines.py tools/lines.txt "$out" target/bench/check
+python3 tools/lines.py tools/lines.txt tools/edges.txt "$out" target/bench/check
 target/bench/check lines tools/lines.txt
 target/bench/check cases "$out/cases.bin" "$out/cases.stdout"
