@@ -22,10 +22,10 @@ use Rattle.interpretation.specs.declared.Value.the-variants.{True, False, Undef
 use Rattle.valuing.specs.Values.{saysTrue, saysFalse, opposite, Lit, atomLit, aggLit, value, trueIn}
 use Rattle.steps.specs.Steps.{bodyLits}
 use Rattle.steps.proofs.Lits.{map-i}
-use Rattle.literals.specs.declared.Scan.{Scan}
-use Rattle.literals.specs.declared.Scan.the-variants.{Refuted, Whole, One, More}
-use Rattle.literals.specs.Scan.{scanOf}
-use Rattle.literals.proofs.Scans.{isFalse, IsRefuted, IsWhole, IsOne, IsMore, scan-refuted, scan-whole, scan-one, scan-more}
+use Rattle.literals.specs.declared.First.{First}
+use Rattle.literals.specs.declared.First.the-variants as first
+use Rattle.literals.specs.Scan.{firstFalse}
+use Rattle.literals.proofs.Scans.{isFalse, IsFirst, IsNone, says-at, says-nothing}
 use Rattle.rules.specs.declared.Step.{Step}
 use Rattle.rules.specs.Demand.{together, asks, isConflict}
 use Rattle.foundation.specs.declared.Adds.{Adds}
@@ -73,10 +73,10 @@ module _ (a : ℕ → Cell) (ps : List ℕ) where
   denied : List Lit
   denied = map (atomLit false) ps
 
-  -- the literal at which the scan stops is that of a true atom
-  stop-true : (k : ℕ) → scanOf a (map (atomLit false) ps) ≡ Refuted k → (getD ps k 0 ∈ ps) × Is (truthOf (a (getD ps k 0)))
+  -- the literal that is found is that of a true atom
+  stop-true : (k : ℕ) → firstFalse a (map (atomLit false) ps) ≡ first.At k → (getD ps k 0 ∈ ps) × Is (truthOf (a (getD ps k 0)))
   stop-true k e =
-      let s = scan-refuted (atomLit false 0) a (map (atomLit false) ps) k e in
+      let s = says-at (atomLit false 0) a (map (atomLit false) ps) k e in
       let w = s .within in
       let g = length-map ps (atomLit false) in
       (get-in ps k 0 (omega arith), true-cell (a (getD ps k 0)) (ap (value a) (sym (List·getD-map (atomLit false) ps k 0)) ∙ s .it-is))
@@ -97,10 +97,10 @@ module _ (a : ℕ → Cell) (ps : List ℕ) where
 
   pub sole-e : (p : ℕ) → soleOf a ps ≡ Atom p → Sole p
   unfolding soleOf
-  sole-e p e = at (scanOf a (map (atomLit false) ps)) refl e
+  sole-e p e = at (firstFalse a (map (atomLit false) ps)) refl e
     where
-      at : (s : Scan) → scanOf a (map (atomLit false) ps) ≡ s → soleBy a ps s ≡ Atom p → Sole p
-      at (Refuted k) f g =
+      at : (s : First) → firstFalse a (map (atomLit false) ps) ≡ s → soleBy a ps s ≡ Atom p → Sole p
+      at (first.At k) f g =
           let t = stop-true k f in
           let b = add-e (all (fits a (getD ps k 0)) ps) (getD ps k 0) p g in
           record {
@@ -108,26 +108,22 @@ module _ (a : ℕ → Cell) (ps : List ℕ) where
             isTrue = ap (λ (q : ℕ). truthOf (a q)) (sym (b .1)) ∙ t .1;
             unique = λ h m x. fits-e (getD ps k 0) (b .0) h m x ∙ b .1;
           }
-      at Whole f g = absurd (not-atom g)
-      at (One k) f g = absurd (not-atom g)
-      at More f g = absurd (not-atom g)
+      at first.Nothing f g = absurd (not-atom g)
 
-  -- with a true atom the scan stops
+  -- with a true atom one is found
   some-false : (p : ℕ) → Sole p → any (isFalse a) (map (atomLit false) ps) ≡ false → ⊥
   some-false p s e = clash (any-i (isFalse a) (map (atomLit false) ps) (map-i (atomLit false) (s .inside)) (false-cell (a p) (s .isTrue))) e
 
   pub sole-i : (p : ℕ) → Sole p → soleOf a ps ≡ Atom p
   unfolding soleOf
-  sole-i p s = at (scanOf a (map (atomLit false) ps)) refl
+  sole-i p s = at (firstFalse a (map (atomLit false) ps)) refl
     where
-      at : (c : Scan) → scanOf a (map (atomLit false) ps) ≡ c → soleBy a ps c ≡ Atom p
-      at (Refuted k) f =
+      at : (c : First) → firstFalse a (map (atomLit false) ps) ≡ c → soleBy a ps c ≡ Atom p
+      at (first.At k) f =
           let t = stop-true k f in
           let q = s .unique (getD ps k 0) (t .0) (t .1) in
           ap (λ (b : Bool). addIf b (getD ps k 0)) (fits-i (getD ps k 0) (λ h m x. s .unique h m x ∙ sym q)) ∙ ap Atom q
-      at Whole f = absurd (some-false p s (scan-whole (atomLit false 0) a (map (atomLit false) ps) f .none-false))
-      at (One k) f = absurd (some-false p s (scan-one (atomLit false 0) a (map (atomLit false) ps) k f .none-false))
-      at More f = absurd (some-false p s (scan-more (atomLit false 0) a (map (atomLit false) ps) f .none-false))
+      at first.Nothing f = absurd (some-false p s (says-nothing (atomLit false 0) a (map (atomLit false) ps) f .none-false))
 
 -- ---- what a rule could add
 

@@ -11,10 +11,9 @@ use Rattle.meaning.specs.Lists.{Is, all}
 use Rattle.interpretation.specs.State.{Cell}
 use Rattle.valuing.specs.Values.{atomLit}
 use Rattle.layout.specs.Layout.{atoms, partAt, negAt, aggsAt, ruleAt}
-use Rattle.literals.specs.declared.Scan.{Scan}
-use Rattle.literals.specs.declared.Scan.the-variants.{Refuted, Whole, One, More}
-use Rattle.literals.specs.Scan.{atomLits, literalLits, scanOf}
-use Rattle.literals.proofs.Scans.{IsRefuted, scan-refuted}
+use Rattle.literals.specs.declared.First.the-variants as first
+use Rattle.literals.specs.Scan.{atomLits, literalLits, firstFalse}
+use Rattle.literals.proofs.Scans.{IsFirst, says-at}
 use Rattle.literals.proofs.Together.{atoms-length}
 use Rattle.rules.specs.Demand.{together, asks, isConflict}
 use Rattle.foundation.specs.declared.Adds.{Adds}
@@ -27,29 +26,21 @@ module _ (a : ℕ → Cell) (l : List ℤ) where
   same-atom : (k : ℕ) → getD (atoms l) k 0 ≡ natAbs (getD l k (pos 0))
   same-atom k = List·getD-map natAbs l k (pos 0)
 
-  pub sole-refuted : (k : ℕ) → scanOf a (atomLits false l) ≡ Refuted k
+  pub sole-at : (k : ℕ) → firstFalse a (atomLits false l) ≡ first.At k
       → soleOf a (atoms l) ≡ addIf (all (fits a (natAbs (getD l k (pos 0)))) (atoms l)) (natAbs (getD l k (pos 0)))
   unfolding soleOf
-  sole-refuted k e = ap (soleBy a (atoms l)) e ∙ ap (λ (p : ℕ). addIf (all (fits a p) (atoms l)) p) (same-atom k)
+  sole-at k e = ap (soleBy a (atoms l)) e ∙ ap (λ (p : ℕ). addIf (all (fits a p) (atoms l)) p) (same-atom k)
 
-  pub refuted-within : (k : ℕ) → scanOf a (atomLits false l) ≡ Refuted k → k < length l
-  refuted-within k e =
-      let s = scan-refuted (atomLit false 0) a (atomLits false l) k e in
+  pub first-within : (k : ℕ) → firstFalse a (atomLits false l) ≡ first.At k → k < length l
+  first-within k e =
+      let s = says-at (atomLit false 0) a (atomLits false l) k e in
       let w = s .within in
       let n = atoms-length false l in
       omega arith
 
-  pub sole-whole : scanOf a (atomLits false l) ≡ Whole → soleOf a (atoms l) ≡ Nothing
+  pub sole-nothing : firstFalse a (atomLits false l) ≡ first.Nothing → soleOf a (atoms l) ≡ Nothing
   unfolding soleOf
-  sole-whole e = ap (soleBy a (atoms l)) e
-
-  pub sole-one : (k : ℕ) → scanOf a (atomLits false l) ≡ One k → soleOf a (atoms l) ≡ Nothing
-  unfolding soleOf
-  sole-one k e = ap (soleBy a (atoms l)) e
-
-  pub sole-more : scanOf a (atomLits false l) ≡ More → soleOf a (atoms l) ≡ Nothing
-  unfolding soleOf
-  sole-more e = ap (soleBy a (atoms l)) e
+  sole-nothing e = ap (soleBy a (atoms l)) e
 
 -- ---- the rule at an index
 

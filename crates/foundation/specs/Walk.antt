@@ -26,9 +26,9 @@ use Rattle.meaning.specs.Program.{Rule, Program}
 use Rattle.meaning.specs.Foundedness.{Added}
 use Rattle.interpretation.specs.State.{Cell, truthOf}
 use Rattle.valuing.specs.Values.{atomLit, aggLit}
-use Rattle.literals.specs.declared.Scan.{Scan}
-use Rattle.literals.specs.declared.Scan.the-variants.{Refuted, Whole, One, More}
-use Rattle.literals.specs.Scan.{scanOf}
+use Rattle.literals.specs.declared.First.{First}
+use Rattle.literals.specs.declared.First.the-variants as first
+use Rattle.literals.specs.Scan.{firstFalse}
 use Rattle.rules.specs.Demand.{together, asks, isConflict}
 use Rattle.layout.specs.Layout.{atoms, partAt, posAt, pastRule, ruleAt, Listed}
 use Rattle.foundation.specs.declared.Adds.{Adds}
@@ -46,15 +46,13 @@ abbrev pub addIf : Bool → ℕ → Adds
 addIf true p = Atom p
 addIf false p = Nothing
 
-abbrev pub soleBy : (ℕ → Cell) → List ℕ → Scan → Adds
-soleBy a ps (Refuted k) = addIf (all (fits a (getD ps k 0)) ps) (getD ps k 0)
-soleBy a ps Whole = Nothing
-soleBy a ps (One k) = Nothing
-soleBy a ps More = Nothing
+abbrev pub soleBy : (ℕ → Cell) → List ℕ → First → Adds
+soleBy a ps (first.At k) = addIf (all (fits a (getD ps k 0)) ps) (getD ps k 0)
+soleBy a ps first.Nothing = Nothing
 
 -- the head atoms are taken negated: the first false literal is the first true atom
 unfoldable pub soleOf : (ℕ → Cell) → List ℕ → Adds
-soleOf a ps = soleBy a ps (scanOf a (map (atomLit false) ps))
+soleOf a ps = soleBy a ps (firstFalse a (map (atomLit false) ps))
 
 -- negated atoms and aggregate literals are true
 unfoldable pub restTrue : (ℕ → Cell) → Rule → Bool

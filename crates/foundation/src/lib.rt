@@ -17,7 +17,7 @@ ghost use Rattle.layout.specs.Layout.{Laid, Members, Listed, RuleLies, atoms, r
 ghost use Rattle.foundation.specs.Walk.{marked, fits, soleOf, restTrue, couldOf, placeOf, positives, candidatesFrom, Stands, Fit, walkMarks, walkLeft, covers, MarksAdded};
 use interpretation::Value;
 use layout::Table;
-use literals::Scan;
+use literals::First;
 use rules::Step;
 
 // The atom that a rule adds, if it adds one.
@@ -100,18 +100,16 @@ pub fn sole(l: &[i32], values: &[u8; 256]) -> Adds
     requires { ⌜ Members 256 (now l) ⌝ }
     ensures { λ r. ⌜ r ≡ soleOf (valued (now (values .entry))) (atoms (now (l .entry))) ⌝ }
 {
-    let found = literals::scan_atoms(l, false, values);
+    let found = literals::false_atom(l, false, values);
     match found {
-        Scan::Refuted(k) => {
+        First::At(k) => {
             let p = words::atom(l, k);
             if none_but(l, p, values) {
                 return Adds::Atom(p);
             }
             Adds::Nothing
         }
-        Scan::Whole => Adds::Nothing,
-        Scan::One(_) => Adds::Nothing,
-        Scan::More => Adds::Nothing,
+        First::Nothing => Adds::Nothing,
     }
 }
 

@@ -1,7 +1,7 @@
 -- Values and reasons of literals depend on what each atom is, true, false or undefined, and not on the levels kept for the atoms: so the steps may be lent the values
 -- alone (`valued`).
 --   Alike a b       each atom is the same in both
---   value-alone     a literal's value;  scan-alone: what a list comes to;  reason-alone, reasons-alone, atoms-alone: reasons
+--   value-alone     a literal's value;  reason-alone, reasons-alone, atoms-alone: reasons
 -- Assumes nothing.
 use mathlib.Core.Path.{_≡_, refl, sym, _∙_, ap, fun-ext}
 use mathlib.Core.Logic.{_⊎_, inl, inr}
@@ -20,10 +20,7 @@ use Rattle.interpretation.specs.declared.Value.the-variants.{True, False, Undef
 use Rattle.interpretation.proofs.Laws as Laws
 use Rattle.valuing.specs.Values.{saysTrue, saysFalse, lowestOf, highestOf, possibly, passesAlone, asksEach, between, decide, valueBy, aggregateValue, signed, literalValue, Lit, atomLit, aggLit, value}
 use Rattle.valuing.specs.Reasons.{reasonAt, elementsReason, reasonOf, reasonsOf}
-use Rattle.literals.specs.declared.Scan.{Scan}
-use Rattle.literals.specs.declared.Scan.the-variants.{Whole}
-use Rattle.literals.specs.Scan.{oneMore, scanFrom, scanOf, atomsReason}
-use Rattle.literals.proofs.Scans.{value-cases, scan-none, scan-true, scan-false, scan-undefined}
+use Rattle.literals.specs.Scan.{atomsReason}
 
 -- ---- what a cell gives, by its value
 
@@ -103,18 +100,6 @@ module _ (a b : ℕ → Cell) (h : Alike a b) where
   atoms-alike r [] = refl
   atoms-alike r (p ∷ s) = ap (λ (R : Levels). union R (atomsReason a r s)) (at-alike r p) ∙ ap (union (reasonAt (b p) (r p))) (atoms-alike r s)
 
-  from-alike : (i : ℕ) (so : Scan) (s : List Lit) → scanFrom a i so s ≡ scanFrom b i so s
-  from-alike i so [] = scan-none a i so ∙ sym (scan-none b i so)
-  from-alike i so (x ∷ s) = at (value-cases (value b x)) (λ so′. from-alike (suc i) so′ s)
-    where
-      at : (value b x ≡ True) ⊎ (value b x ≡ False) ⊎ (value b x ≡ Undefined) → ((so′ : Scan) → scanFrom a (suc i) so′ s ≡ scanFrom b (suc i) so′ s) → scanFrom a i so (x ∷ s) ≡ scanFrom b i so (x ∷ s)
-      at (inl e) g = scan-true a i so x s (value-alike x ∙ e) ∙ g so ∙ sym (scan-true b i so x s e)
-      at (inr (inl e)) g = scan-false a i so x s (value-alike x ∙ e) ∙ sym (scan-false b i so x s e)
-      at (inr (inr e)) g = scan-undefined a i so x s (value-alike x ∙ e) ∙ g (oneMore i so) ∙ sym (scan-undefined b i so x s e)
-
-  pub scan-alike : (s : List Lit) → scanOf a s ≡ scanOf b s
-  scan-alike s = from-alike 0 Whole s
-
 -- ---- the values alone
 
 module _ (vs : List ℕ) (rs : List Record) where
@@ -123,9 +108,6 @@ module _ (vs : List ℕ) (rs : List Record) where
 
   pub value-alone : (x : Lit) → value (cells vs rs) x ≡ value (valued vs) x
   value-alone = value-alike (cells vs rs) (valued vs) same
-
-  pub scan-alone : (s : List Lit) → scanOf (cells vs rs) s ≡ scanOf (valued vs) s
-  scan-alone = scan-alike (cells vs rs) (valued vs) same
 
   pub reason-alone : (r : ℕ → Levels) (x : Lit) → reasonOf (cells vs rs) r x ≡ reasonOf (valued vs) r x
   reason-alone = reason-alike (cells vs rs) (valued vs) same

@@ -1,6 +1,5 @@
--- Lists of words walked by the code: a scan from the first on, reasons from the last on. Assumes nothing.
+-- Lists of words walked by the code: literals from the first on, reasons from the last on. Assumes nothing.
 use mathlib.Core.Path.{_≡_, refl, sym, _∙_, ap}
-use mathlib.Core.Logic.{_⊎_, inl, inr}
 use mathlib.Core.Bool.{Bool, true, false}
 use mathlib.Core.List.{List, [], _∷_, map}
 use Prim.Native.Nat.{ℕ, zero, suc, _+_, _-_, _≤_, _<_}
@@ -19,30 +18,15 @@ use Rattle.interpretation.specs.declared.Value.the-variants.{True, False, Undef
 use Rattle.layout.specs.Layout.{atoms}
 use Rattle.valuing.specs.Values.{saysFalse, Lit, value}
 use Rattle.valuing.specs.Reasons.{reasonAt, reasonOf, reasonsOf}
-use Rattle.literals.specs.declared.Scan.{Scan}
-use Rattle.literals.specs.declared.Scan.the-variants.{Refuted, Whole, One, More}
-use Rattle.literals.specs.Scan.{oneMore, scanFrom, scanOf, atomsReason}
-use Rattle.literals.specs.Elements.{countedBy}
-use Rattle.literals.proofs.Scans.{value-cases, scan-none, scan-true, scan-false, scan-undefined}
+use Rattle.literals.specs.declared.First.the-variants.{At, Nothing}
+use Rattle.literals.specs.Scan.{firstFrom, atomsReason}
+use Rattle.literals.proofs.Scans.{first-none, first-at, first-later}
 use Rattle.literals.proofs.Together.{union-assoc}
 
--- ---- a scan
-
-on : (a : ℕ → Cell) (i : ℕ) (so : Scan) (x : Lit) (s : List Lit) → saysFalse (value a x) ≡ false → scanFrom a i so (x ∷ s) ≡ scanFrom a (suc i) (countedBy (value a x) i so) s
-on a i so x s n = at (value-cases (value a x))
-  where
-    at : (value a x ≡ True) ⊎ (value a x ≡ False) ⊎ (value a x ≡ Undefined) → scanFrom a i so (x ∷ s) ≡ scanFrom a (suc i) (countedBy (value a x) i so) s
-    at (inl e) = scan-true a i so x s e ∙ ap (λ (v : Value). scanFrom a (suc i) (countedBy v i so) s) (sym e)
-    at (inr (inl e)) = absurd (clash (ap saysFalse e) n)
-    at (inr (inr e)) = scan-undefined a i so x s e ∙ ap (λ (v : Value). scanFrom a (suc i) (countedBy v i so) s) (sym e)
-
-says-false : (v : Value) → saysFalse v ≡ true → v ≡ False
-says-false True h = absurd (clash h refl)
-says-false False h = refl
-says-false Undefined h = absurd (clash h refl)
+-- ---- the first false literal
 
 -- the literals f (g w) of the words w from index i on
-module _ {A : Type 0} (g : ℤ → A) (f : A → Lit) (a : ℕ → Cell) (l : List ℤ) (i : ℕ) (so : Scan) where
+module _ {A : Type 0} (g : ℤ → A) (f : A → Lit) (a : ℕ → Cell) (l : List ℤ) (i : ℕ) where
   abbrev lits : ℕ → List Lit
   lits j = map f (map g (drop j l))
 
@@ -52,16 +36,15 @@ module _ {A : Type 0} (g : ℤ → A) (f : A → Lit) (a : ℕ → Cell) (l : Li
   lits-on : i < length l → lits i ≡ here ∷ lits (suc i)
   lits-on h = ap (λ (m : List ℤ). map f (map g m)) (drop-cons l i (pos 0) h)
 
-  pub walk-on : i < length l → (v : Value) → v ≡ value a here → saysFalse v ≡ false → scanFrom a i so (lits i) ≡ scanFrom a (i + 1) (countedBy v i so) (lits (i + 1))
+  pub walk-on : i < length l → (v : Value) → v ≡ value a here → saysFalse v ≡ false → firstFrom a i (lits i) ≡ firstFrom a (i + 1) (lits (i + 1))
   walk-on h v e n =
-      ap (scanFrom a i so) (lits-on h) ∙ on a i so here (lits (suc i)) (ap saysFalse (sym e) ∙ n)
-      ∙ ap (λ (v : Value). scanFrom a (suc i) (countedBy v i so) (lits (suc i))) (sym e) ∙ ap (λ (j : ℕ). scanFrom a j (countedBy v i so) (lits j)) (sym (add-one i))
+      ap (firstFrom a i) (lits-on h) ∙ first-later a i here (lits (suc i)) (ap saysFalse (sym e) ∙ n) ∙ ap (λ (j : ℕ). firstFrom a j (lits j)) (sym (add-one i))
 
-  pub walk-false : i < length l → (v : Value) → v ≡ value a here → saysFalse v ≡ true → scanFrom a i so (lits i) ≡ Refuted i
-  walk-false h v e n = ap (scanFrom a i so) (lits-on h) ∙ scan-false a i so here (lits (suc i)) (sym e ∙ says-false v n)
+  pub walk-false : i < length l → (v : Value) → v ≡ value a here → saysFalse v ≡ true → firstFrom a i (lits i) ≡ At i
+  walk-false h v e n = ap (firstFrom a i) (lits-on h) ∙ first-at a i here (lits (suc i)) (ap saysFalse (sym e) ∙ n)
 
-  pub walk-end : length l ≤ i → scanFrom a i so (lits i) ≡ so
-  walk-end h = ap (λ (m : List ℤ). scanFrom a i so (map f (map g m))) (drop-of-length-le l h) ∙ scan-none a i so
+  pub walk-end : length l ≤ i → firstFrom a i (lits i) ≡ Nothing
+  walk-end h = ap (λ (m : List ℤ). firstFrom a i (map f (map g m))) (drop-of-length-le l h) ∙ first-none a i
 
 -- ---- reasons
 

@@ -20,15 +20,7 @@ use Rattle.interpretation.specs.State.{Cell}
 use Rattle.interpretation.specs.declared.Value.{Value}
 use Rattle.interpretation.specs.declared.Value.the-variants.{True, False, Undefined}
 use Rattle.valuing.specs.Values.{lowestOf, highestOf, between, decide}
-use Rattle.literals.specs.Scan.{oneMore}
-use Rattle.literals.specs.declared.Scan.{Scan}
 use Rattle.literals.specs.declared.aggregates.Totals.{Totals}
-
--- what was found before, with the literal at i, which is not false
-abbrev pub countedBy : Value → ℕ → Scan → Scan
-countedBy True i so = so
-countedBy False i so = so
-countedBy Undefined i so = oneMore i so
 
 -- ---- one value
 

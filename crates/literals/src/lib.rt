@@ -11,19 +11,17 @@ ghost use Rattle.interpretation.specs.View.{valued};
 ghost use Rattle.layout.specs.Layout.{Laid, Members, atoms, literalOf, pairs};
 ghost use Rattle.valuing.specs.Values.{saysFalse, signed, aggLit, literalValue};
 ghost use Rattle.valuing.specs.Reasons.{reasonAt, elementsReason, reasonOf, reasonsOf};
-ghost use Rattle.literals.specs.Scan.{atomLits, literalLits, oneMore, scanOf, atomsReason};
-ghost use Rattle.literals.specs.Elements.{countedBy, Paired};
+ghost use Rattle.literals.specs.Scan.{atomLits, literalLits, firstFalse, atomsReason};
+ghost use Rattle.literals.specs.Elements.{Paired};
 use interpretation::Value;
 use layout::Table;
 
 mod aggregates;
 
-// What a list of literals comes to: the first false one, by its index; or all true; or one undefined, by its index, the others true; or more.
-pub enum Scan {
-    Refuted(usize),
-    Whole,
-    One(usize),
-    More,
+// The first false literal of a list, by its index from 0; or none is false.
+pub enum First {
+    At(usize),
+    Nothing,
 }
 
 // ---- one value
@@ -52,48 +50,23 @@ pub fn signed(sign: bool, v: Value) -> Value
     }
 }
 
-// One undefined literal more, the one at i.
-pub fn one_more(i: usize, so: Scan) -> Scan
-    ensures { λ r. ⌜ r ≡ oneMore i so ⌝ }
-{
-    match so {
-        Scan::Refuted(_) => so,
-        Scan::Whole => Scan::One(i),
-        Scan::One(_) => Scan::More,
-        Scan::More => Scan::More,
-    }
-}
-
-// The literal at i, which is not false, beside those before it.
-pub fn counted(v: Value, i: usize, so: Scan) -> Scan
-    ensures { λ r. ⌜ r ≡ countedBy v i so ⌝ }
-{
-    match v {
-        Value::True => so,
-        Value::False => so,
-        Value::Undefined => one_more(i, so),
-    }
-}
-
 // ---- lists of atoms
 
-// A list of atoms taken as literals, plain or negated, from the first to the last.
-pub fn scan_atoms(l: &[i32], sign: bool, values: &[u8; 256]) -> Scan
+// The first false one of a list of atoms taken as literals, plain or negated.
+pub fn false_atom(l: &[i32], sign: bool, values: &[u8; 256]) -> First
     requires { ⌜ Members 256 (now l) ⌝ }
-    ensures { λ r. ⌜ r ≡ scanOf (valued (now (values .entry))) (atomLits sign (now (l .entry))) ⌝ }
+    ensures { λ r. ⌜ r ≡ firstFalse (valued (now (values .entry))) (atomLits sign (now (l .entry))) ⌝ }
 {
-    let mut so = Scan::Whole;
     let mut i: usize = 0;
     while i < l.len() {
         let p = words::atom(l, i);
         let v = signed(sign, interpretation::value_of(values, p));
         if refutes(v) {
-            return Scan::Refuted(i);
+            return First::At(i);
         }
-        so = counted(v, i, so);
         i += 1;
     }
-    so
+    First::Nothing
 }
 
 // The reason of atom p joined to a set.
@@ -156,22 +129,20 @@ pub fn literal_value(t: &[i32], tb: Table, l: &[i32], k: usize, values: &[u8; 25
     signed(aggregates::plain(l, k), v)
 }
 
-// A list of aggregate literals.
-pub fn scan_literals(t: &[i32], tb: Table, l: &[i32], values: &[u8; 256]) -> Scan
+// The first false one of a list of aggregate literals.
+pub fn false_literal(t: &[i32], tb: Table, l: &[i32], values: &[u8; 256]) -> First
     requires { ⌜ Laid (now t) tb × Members (tb .aggregates) (now l) ⌝ }
-    ensures { λ r. ⌜ r ≡ scanOf (valued (now (values .entry))) (literalLits (now (t .entry)) (now (l .entry))) ⌝ }
+    ensures { λ r. ⌜ r ≡ firstFalse (valued (now (values .entry))) (literalLits (now (t .entry)) (now (l .entry))) ⌝ }
 {
-    let mut so = Scan::Whole;
     let mut k: usize = 0;
     while k < l.len() {
         let v = literal_value(t, tb, l, k, values);
         if refutes(v) {
-            return Scan::Refuted(k);
+            return First::At(k);
         }
-        so = counted(v, k, so);
         k += 1;
     }
-    so
+    First::Nothing
 }
 
 // The reasons of the atoms of the pairs joined to a set, from the last pair to the first.

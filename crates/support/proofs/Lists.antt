@@ -12,7 +12,7 @@ use Rattle.interpretation.specs.declared.Choice.the-variants as choice
 use Rattle.layout.specs.Layout.{atoms, partAt, posAt, negAt, aggsAt, ruleAt, Members, Listed, Laid}
 use Rattle.layout.specs.declared.Table.{Table}
 use Rattle.layout.proofs.Rounds.{members-wide}
-use Rattle.literals.specs.Scan.{literalLits, scanOf}
+use Rattle.literals.specs.Scan.{literalLits, firstFalse}
 use Rattle.support.specs.declared.Next.the-variants.{Set, Nothing}
 use Rattle.support.specs.declared.Witness.{Witness}
 use Rattle.support.specs.declared.Witness.the-variants as witness
@@ -60,7 +60,7 @@ module _ (a : ℕ → Cell) (t : List ℤ) (i : ℕ) where
   N = firstWith (valuesOf a) True (atoms (partAt t (negAt t i)))
 
   abbrev A : Witness
-  A = refutedBy (scanOf a (literalLits t (partAt t (aggsAt t i))))
+  A = refutedBy (firstFalse a (literalLits t (partAt t (aggsAt t i))))
 
   body-at : bodyWitness a t i ≡ atomOr P (atomOr N A)
   unfolding bodyWitness

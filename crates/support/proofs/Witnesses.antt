@@ -25,10 +25,10 @@ use Rattle.layout.specs.Layout.{atoms, partAt, posAt, negAt, aggsAt, literalOf,
 use Rattle.valuing.specs.Values.{saysTrue, saysFalse, opposite, Lit, atomLit, aggLit, value}
 use Rattle.valuing.specs.Reasons.{reasonAt, reasonOf}
 use Rattle.steps.specs.Steps.{headLits, bodyLits, firstOf, isOther, orElse}
-use Rattle.literals.specs.declared.Scan.{Scan}
-use Rattle.literals.specs.declared.Scan.the-variants.{Refuted, Whole, One, More}
-use Rattle.literals.specs.Scan.{literalLits, scanOf}
-use Rattle.literals.proofs.Scans.{isFalse, Says, scan-says}
+use Rattle.literals.specs.declared.First.{First}
+use Rattle.literals.specs.declared.First.the-variants.{At, Nothing}
+use Rattle.literals.specs.Scan.{literalLits, firstFalse}
+use Rattle.literals.proofs.Scans.{isFalse, Says, first-says}
 use Rattle.literals.proofs.Together.{first-append, literal-at, literals-length, reason-atom}
 use Rattle.support.specs.declared.Witness.{Witness}
 use Rattle.support.specs.declared.Witness.the-variants as witness
@@ -110,8 +110,8 @@ module _ (top : ℕ) (t : List ℤ) (i : ℕ) (a : ℕ → Cell) where
   tells-or s (choice.Atom q) o e f w x T = subst (λ (y : Option Lit). Tells top t i (witness.Atom q) (orElse y x)) (sym e) (atom s q (f q refl))
   tells-or s choice.Nothing o e f w x T = subst (λ (y : Option Lit). Tells top t i w (orElse y x)) (sym e) T
 
-  tells-aggs : Tells top t i (refutedBy (scanOf a (literalLits t (partAt t (aggsAt t i))))) (firstOf (isFalse a) (literalLits t (partAt t (aggsAt t i))))
-  tells-aggs = at (scanOf a L) (scan-says d a L)
+  tells-aggs : Tells top t i (refutedBy (firstFalse a (literalLits t (partAt t (aggsAt t i))))) (firstOf (isFalse a) (literalLits t (partAt t (aggsAt t i))))
+  tells-aggs = at (firstFalse a L) (first-says d a L)
     where
       L : List Lit
       L = literalLits t (partAt t (aggsAt t i))
@@ -119,11 +119,9 @@ module _ (top : ℕ) (t : List ℤ) (i : ℕ) (a : ℕ → Cell) where
       d : Lit
       d = aggLit (literalOf t (pos 0))
 
-      at : (r : Scan) → Says d a L r → Tells top t i (refutedBy r) (firstOf (isFalse a) L)
-      at (Refuted k) s = subst (Tells top t i (witness.Literal k)) (sym (s .first ∙ ap some (literal-at t (partAt t (aggsAt t i)) k))) (literal k (rw (sym (literals-length t (partAt t (aggsAt t i)))) (s .within)))
-      at Whole s = subst (Tells top t i witness.Nobody) (sym (s .no-first)) nobody
-      at (One k) s = subst (Tells top t i witness.Nobody) (sym (s .no-first)) nobody
-      at More s = subst (Tells top t i witness.Nobody) (sym (s .no-first)) nobody
+      at : (r : First) → Says d a L r → Tells top t i (refutedBy r) (firstOf (isFalse a) L)
+      at (At k) s = subst (Tells top t i (witness.Literal k)) (sym (s .first ∙ ap some (literal-at t (partAt t (aggsAt t i)) k))) (literal k (rw (sym (literals-length t (partAt t (aggsAt t i)))) (s .within)))
+      at Nothing s = subst (Tells top t i witness.Nobody) (sym (s .no-first)) nobody
 
   module _ (I : RuleIn top (ruleAt t i)) where
     heads-in : (q : ℕ) → q ∈ atoms (partAt t i) → In top q

@@ -33,9 +33,9 @@ use Rattle.layout.specs.declared.Table.{Table}
 use Rattle.valuing.specs.Values.{saysTrue, saysFalse, saysUndefined, Lit, value}
 use Rattle.valuing.specs.Reasons.{reasonOf}
 use Rattle.steps.specs.Steps.{headLits, bodyLits, firstOf, isOther, orElse, Work, set, refuted, stepE}
-use Rattle.literals.specs.declared.Scan.{Scan}
-use Rattle.literals.specs.declared.Scan.the-variants.{Refuted, Whole, One, More}
-use Rattle.literals.specs.Scan.{literalLits, scanOf}
+use Rattle.literals.specs.declared.First.{First}
+use Rattle.literals.specs.declared.First.the-variants.{At, Nothing}
+use Rattle.literals.specs.Scan.{literalLits, firstFalse}
 use Rattle.support.specs.declared.Ask.{Ask}
 use Rattle.support.specs.declared.Ask.the-variants.{Nothing, Conflict, Unset, Sole}
 use Rattle.support.specs.declared.Next.{Next}
@@ -82,18 +82,16 @@ abbrev pub atomOr : Choice → Witness → Witness
 atomOr (choice.Atom q) w = witness.Atom q
 atomOr choice.Nothing w = w
 
-abbrev pub refutedBy : Scan → Witness
-refutedBy (Refuted k) = witness.Literal k
-refutedBy Whole = witness.Nobody
-refutedBy (One k) = witness.Nobody
-refutedBy More = witness.Nobody
+abbrev pub refutedBy : First → Witness
+refutedBy (At k) = witness.Literal k
+refutedBy Nothing = witness.Nobody
 
 -- of the rule at i: its first false body literal
 unfoldable pub bodyWitness : (ℕ → Cell) → List ℤ → ℕ → Witness
 bodyWitness a t i =
     atomOr (firstWith (valuesOf a) False (atoms (partAt t (posAt t i))))
     (atomOr (firstWith (valuesOf a) True (atoms (partAt t (negAt t i))))
-    (refutedBy (scanOf a (literalLits t (partAt t (aggsAt t i))))))
+    (refutedBy (firstFalse a (literalLits t (partAt t (aggsAt t i))))))
 
 unfoldable pub witnessAt : (ℕ → Cell) → List ℤ → ℕ → ℕ → Witness
 witnessAt a t p i = atomOr (otherTrue (valuesOf a) p (atoms (partAt t i))) (bodyWitness a t i)

@@ -13,13 +13,13 @@ ghost use Rattle.meaning.specs.Lists.{has};
 ghost use Rattle.layout.specs.Layout.{Laid, Members, RuleLies, ruleAt, programOf};
 ghost use Rattle.heads.specs.Heads.{Listed};
 ghost use Rattle.valuing.specs.Reasons.{reasonOf};
-ghost use Rattle.literals.specs.Scan.{literalLits, scanOf};
+ghost use Rattle.literals.specs.Scan.{literalLits, firstFalse};
 ghost use Rattle.support.specs.Asking.{witnessOf, supportsOf, refutedBy, bodyWitness, witnessAt, Candidates, skipped, someRule, forcedOf, soleBy, trueBy, askOf, blamedBy, blameOf};
 use heads::Lists;
 use interpretation::Choice;
 use interpretation::Value;
 use layout::Table;
-use literals::Scan;
+use literals::First;
 
 // What steps d and e ask at an atom: nothing; it is true and no rule supports it; it is undefined and no rule supports it, so it becomes false; or it is
 // true and the rule at that index of the table alone supports it, and has undefined atoms.
@@ -69,14 +69,12 @@ pub fn forced(t: &[i32], tb: Table, at: usize, values: &[u8; 256]) -> Next
 // The first false aggregate literal of a list, as a witness.
 pub fn false_literal(t: &[i32], tb: Table, l: &[i32], values: &[u8; 256]) -> Witness
     requires { ⌜ Laid (now t) tb × Members (tb .aggregates) (now l) ⌝ }
-    ensures { λ r. ⌜ r ≡ refutedBy (scanOf (valued (now (values .entry))) (literalLits (now (t .entry)) (now (l .entry)))) ⌝ }
+    ensures { λ r. ⌜ r ≡ refutedBy (firstFalse (valued (now (values .entry))) (literalLits (now (t .entry)) (now (l .entry)))) ⌝ }
 {
-    let s = literals::scan_literals(t, tb, l, values);
-    match s {
-        Scan::Refuted(k) => Witness::Literal(k),
-        Scan::Whole => Witness::Nobody,
-        Scan::One(_) => Witness::Nobody,
-        Scan::More => Witness::Nobody,
+    let first = literals::false_literal(t, tb, l, values);
+    match first {
+        First::At(k) => Witness::Literal(k),
+        First::Nothing => Witness::Nobody,
     }
 }
 

@@ -1,4 +1,4 @@
--- `foundation::sole` meets its contract: the four answers of a scan. Assumes nothing.
+-- `foundation::sole` meets its contract: the two answers to which atom is the first true one. Assumes nothing.
 use borrow.Author.Needs.{needs}
 use mathlib.Core.Path.{_≡_, sym, ap, ap₂, _∙_}
 use mathlib.Core.Bool.{Bool, true, false}
@@ -10,11 +10,11 @@ use Rattle.meaning.specs.Lists.{all}
 use Rattle.interpretation.specs.State.{Cell}
 use Rattle.interpretation.specs.View.{valued}
 use Rattle.layout.specs.Layout.{atoms}
-use Rattle.literals.specs.declared.Scan.the-variants.{Refuted}
-use Rattle.literals.specs.Scan.{atomLits, scanOf}
+use Rattle.literals.specs.declared.First.the-variants.{At}
+use Rattle.literals.specs.Scan.{atomLits, firstFalse}
 use Rattle.foundation.specs.declared.Adds.{Adds}
 use Rattle.foundation.specs.Walk.{fits, addIf, soleOf}
-use Rattle.foundation.proofs.Reading.{sole-refuted, refuted-within, sole-whole, sole-one, sole-more}
+use Rattle.foundation.proofs.Reading.{sole-at, first-within, sole-nothing}
 use Rattle.foundation.proofs.sole.Statement.{statement}
 use Rattle.foundation.proofs.sole.Tie as tie
 
@@ -24,29 +24,29 @@ cell s = valued (s .args .values .now)
 abbrev list : tie.Start → List ℤ
 list s = s .args .l .now
 
-scan-atoms-requires : tie.Need-scan-atoms-requires
-scan-atoms-requires c κs = search needs
+false-atom-requires : tie.Need-false-atom-requires
+false-atom-requires c κs = search needs
 
 enum-known-found : tie.Need-enum-known-found
 enum-known-found c = search needs
 
-stopped : (c : tie.After-found) → let s = c .before .before .before in scanOf (cell s) (atomLits false (list s)) ≡ Refuted (c .found .given .0 .0)
-stopped c = sym (c .before .before .scan-atoms .ensures) ∙ c .found .given .1
+stopped : (c : tie.After-found) → let s = c .before .before .before in firstFalse (cell s) (atomLits false (list s)) ≡ At (c .found .given .0 .0)
+stopped c = sym (c .before .before .false-atom .ensures) ∙ c .found .given .1
 
 atom-requires : tie.Need-atom-requires
-atom-requires c κs = let s = c .before .before .before .before in refuted-within (cell s) (list s) _ (stopped (c .before))
+atom-requires c κs = let s = c .before .before .before .before in first-within (cell s) (list s) _ (stopped (c .before))
 
 none-but-requires : tie.Need-none-but-requires
 none-but-requires c κs = search needs
 
--- whether the atom at which the scan stopped is the only true one
+-- whether the atom that was found is the only true one
 tested : (c : tie.After-none-but)
     → let s = c .before .before .before .before .before .before in
     soleOf (cell s) (atoms (list s)) ≡ addIf (c .none-but .result) (c .before .atom .result)
 tested c =
     let f = c .before .before .before in
     let s = f .before .before .before in
-    sole-refuted (cell s) (list s) (f .found .given .0 .0) (stopped f)
+    sole-at (cell s) (list s) (f .found .given .0 .0) (stopped f)
     ∙ ap (λ (p : ℕ). addIf (all (fits (cell s) p) (atoms (list s))) p) (sym (c .before .atom .ensures))
     ∙ ap (λ (b : Bool). addIf b (c .before .atom .result)) (sym (c .none-but .ensures))
 
@@ -56,37 +56,21 @@ returns c = sym (tested (c .before) ∙ ap (λ (b : Bool). addIf b (c .before .b
 enum-told : tie.Need-enum-told
 enum-told c = search needs
 
-enum-told-2 : tie.Need-enum-told-2
-enum-told-2 c = search needs
-
-enum-told-3 : tie.Need-enum-told-3
-enum-told-3 c = search needs
-
 returns-2 : tie.Need-returns-2
 returns-2 c = sym (tested (c .before) ∙ ap (λ (b : Bool). addIf b (c .before .before .atom .result)) (c .if1 .left))
 
 returns-3 : tie.Need-returns-3
-returns-3 c = let s = c .before .before .before in sym (sole-whole (cell s) (list s) (sym (c .before .before .scan-atoms .ensures) ∙ c .enum-told .given .1))
-
-returns-4 : tie.Need-returns-4
-returns-4 c = let s = c .before .before .before in sym (sole-one (cell s) (list s) _ (sym (c .before .before .scan-atoms .ensures) ∙ c .enum-told2 .given .1))
-
-returns-5 : tie.Need-returns-5
-returns-5 c = let s = c .before .before .before in sym (sole-more (cell s) (list s) (sym (c .before .before .scan-atoms .ensures) ∙ c .enum-told3 .given .1))
+returns-3 c = let s = c .before .before .before in sym (sole-nothing (cell s) (list s) (sym (c .before .before .false-atom .ensures) ∙ c .enum-told .given .1))
 
 pub sole-spec : {M : Type 1} → statement M
 sole-spec =
     tie.close
     (tie.spec
-    scan-atoms-requires
+    false-atom-requires
     enum-known-found
     atom-requires
     none-but-requires
     returns
     enum-told
-    enum-told-2
-    enum-told-3
     returns-2
-    returns-3
-    returns-4
-    returns-5)
+    returns-3)

@@ -6,7 +6,7 @@ use lib.IntN.{ℤ}
 use Rattle.interpretation.specs.View.{valued}
 use Rattle.interpretation.specs.declared.Value.the-variants.{True, False}
 use Rattle.layout.specs.Layout.{atoms, Members, partAt, pastAt, posAt, negAt, aggsAt}
-use Rattle.literals.specs.Scan.{literalLits, scanOf}
+use Rattle.literals.specs.Scan.{literalLits, firstFalse}
 use Rattle.support.specs.Asking.{valuesOf, firstWith, refutedBy}
 use Rattle.support.proofs.Lists.{in-array, body-pos, body-neg, body-aggs}
 use borrow.Author.Needs.{needs}
@@ -42,11 +42,11 @@ aggs-place : (c : tie.After-past3) → let a = c .before .before .before .before
 aggs-place c = let a = c .before .before .before .before .before .before .before .before .before .before .before .args in c .past3 .ensures ∙ ap (pastAt (a .t .now)) (neg-place (c .before .before .before .before .before))
 
 third : (c : tie.After-false-literal) → let a = c .before .before .before .before .before .before .before .before .before .before .before .before .before .args in
-    c .false-literal .result ≡ refutedBy (scanOf (valued (a .values .now)) (literalLits (a .t .now) (partAt (a .t .now) (aggsAt (a .t .now) (a .at)))))
+    c .false-literal .result ≡ refutedBy (firstFalse (valued (a .values .now)) (literalLits (a .t .now) (partAt (a .t .now) (aggsAt (a .t .now) (a .at)))))
 third c =
     let a = c .before .before .before .before .before .before .before .before .before .before .before .before .before .args in
     c .false-literal .ensures
-    ∙ ap (λ (l : List ℤ). refutedBy (scanOf (valued (a .values .now)) (literalLits (a .t .now) l))) (c .before .part3 .ensures ∙ ap (partAt (a .t .now)) (aggs-place (c .before .before)))
+    ∙ ap (λ (l : List ℤ). refutedBy (firstFalse (valued (a .values .now)) (literalLits (a .t .now) l))) (c .before .part3 .ensures ∙ ap (partAt (a .t .now)) (aggs-place (c .before .before)))
 
 -- ---- the answers
 

@@ -1,4 +1,4 @@
--- `literals::scan_literals` meets its contract. Assumes nothing.
+-- `literals::false_literal` meets its contract. Assumes nothing.
 use borrow.Author.Needs.{needs}
 use mathlib.Core.Path.{_≡_, refl, sym, ap, _∙_}
 use mathlib.Core.Bool.{Bool, true, false}
@@ -10,22 +10,20 @@ use Rattle.interpretation.specs.View.{valued, cellValue}
 use Rattle.layout.specs.Layout.{pairs}
 use Rattle.valuing.specs.Values.{saysFalse, aggLit, value}
 use Rattle.layout.specs.Layout.{literalOf}
-use Rattle.literals.specs.declared.Scan.{Scan}
-use Rattle.literals.specs.Scan.{literalLits, scanFrom, scanOf}
+use Rattle.literals.specs.Scan.{literalLits, firstFrom, firstFalse}
 use Rattle.literals.proofs.Walks.{walk-on, walk-false, walk-end}
-use Rattle.literals.proofs.scan_literals.Statement.{statement}
-use Rattle.literals.proofs.scan_literals.Tie as tie
-use Rattle.literals.proofs.scan_literals.Reads as reads
-use Rattle.literals.proofs.scan_literals.Lts as lts
-use Rattle.literals.proofs.counted.Reads as counted-reads
+use Rattle.literals.proofs.false_literal.Statement.{statement}
+use Rattle.literals.proofs.false_literal.Tie as tie
+use Rattle.literals.proofs.false_literal.Reads as reads
+use Rattle.literals.proofs.false_literal.Lts as lts
 use Rattle.literals.proofs.literal_value.Reads as literal-value-reads
 use Rattle.literals.proofs.refutes.Reads as refutes-reads
 
 abbrev Inv-loop : tie.InvT-loop
-Inv-loop t tb l values so₀ k₀ so k = (k ≤ length l) × (scanFrom (valued values) k so (literalLits t (drop k l)) ≡ scanOf (valued values) (literalLits t l))
+Inv-loop t tb l values k₀ k = (k ≤ length l) × (firstFrom (valued values) k (literalLits t (drop k l)) ≡ firstFalse (valued values) (literalLits t l))
 
 abbrev μ-loop : tie.MeasureT-loop
-μ-loop t tb l values so₀ k₀ so k = length l - k
+μ-loop t tb l values k₀ k = length l - k
 
 loop-holds : tie.Need-loop-holds Inv-loop μ-loop
 loop-holds c = (omega arith, refl)
@@ -40,12 +38,9 @@ returns : tie.Need-returns Inv-loop μ-loop
 returns c =
     let b = c .before .before .before .before in
     let a = b .before .args in
-    sym (walk-false (literalOf (a .t .now)) aggLit (valued (a .values .now)) (a .l .now) (b .loop .k) (b .loop .so) (c .before .before .before .loop-test .taken) _ (c .before .before .literal-value .ensures)
+    sym (walk-false (literalOf (a .t .now)) aggLit (valued (a .values .now)) (a .l .now) (b .loop .k) (c .before .before .before .loop-test .taken) _ (c .before .before .literal-value .ensures)
     (sym (c .before .refutes .ensures) ∙ c .if1 .taken))
     ∙ b .loop .inv .1
-
-counted-requires : tie.Need-counted-requires Inv-loop μ-loop
-counted-requires c κs = search needs
 
 add-k : tie.Need-add-k Inv-loop μ-loop
 add-k c = omega arith
@@ -55,14 +50,11 @@ loop-less c = omega arith
 
 loop-again : tie.Need-loop-again Inv-loop μ-loop
 loop-again c =
-    let e = c .before in
-    let b = e .before .before .before .before in
-    let a = b .before .args in
-    let X = valued (a .values .now) in (
+    let b = c .before .before .before .before in
+    let a = b .before .args in (
       omega arith,
-      ap (λ (so : Scan). scanFrom X (b .loop .k + 1) so (literalLits (a .t .now) (drop (b .loop .k + 1) (a .l .now)))) (c .counted .ensures)
-          ∙ sym (walk-on (literalOf (a .t .now)) aggLit X (a .l .now) (b .loop .k) (b .loop .so) (e .before .before .before .loop-test .taken) _ (e .before .before .literal-value .ensures)
-          (sym (e .before .refutes .ensures) ∙ e .if1 .left))
+      sym (walk-on (literalOf (a .t .now)) aggLit (valued (a .values .now)) (a .l .now) (b .loop .k) (c .before .before .before .loop-test .taken) _ (c .before .before .literal-value .ensures)
+          (sym (c .before .refutes .ensures) ∙ c .if1 .left))
           ∙ b .loop .inv .1,
     )
 
@@ -70,10 +62,10 @@ returns-2 : tie.Need-returns-2 Inv-loop μ-loop
 returns-2 c =
     let b = c .before in
     let a = b .before .args in
-    sym (walk-end (literalOf (a .t .now)) aggLit (valued (a .values .now)) (a .l .now) (b .loop .k) (b .loop .so) (c .loop-test .left)) ∙ b .loop .inv .1
+    sym (walk-end (literalOf (a .t .now)) aggLit (valued (a .values .now)) (a .l .now) (b .loop .k) (c .loop-test .left)) ∙ b .loop .inv .1
 
-pub scan-literals-spec : {M : Type 1} → statement M
-scan-literals-spec =
+pub false-literal-spec : {M : Type 1} → statement M
+false-literal-spec =
     tie.close
     (tie.spec
     Inv-loop
@@ -82,7 +74,6 @@ scan-literals-spec =
     literal-value-requires
     refutes-requires
     returns
-    counted-requires
     add-k
     loop-less
     loop-again

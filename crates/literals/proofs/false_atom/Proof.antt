@@ -1,4 +1,4 @@
--- `literals::scan_atoms` meets its contract. Assumes nothing.
+-- `literals::false_atom` meets its contract. Assumes nothing.
 use borrow.Author.Needs.{needs}
 use mathlib.Core.Path.{_≡_, refl, sym, ap, _∙_}
 use mathlib.Core.Bool.{Bool, true, false}
@@ -9,25 +9,22 @@ use lib.ListN.{length, getD, drop}
 use Rattle.interpretation.specs.View.{valued, cellValue}
 use Rattle.interpretation.specs.declared.Value.{Value}
 use Rattle.valuing.specs.Values.{saysFalse, signed, atomLit, value}
-use Rattle.literals.specs.declared.Scan.{Scan}
-use Rattle.literals.specs.Scan.{atomLits, scanFrom, scanOf}
-use Rattle.literals.specs.Elements.{countedBy}
+use Rattle.literals.specs.Scan.{atomLits, firstFrom, firstFalse}
 use Rattle.literals.proofs.Walks.{walk-on, walk-false, walk-end}
-use Rattle.literals.proofs.scan_atoms.Statement.{statement}
-use Rattle.literals.proofs.scan_atoms.Tie as tie
-use Rattle.literals.proofs.scan_atoms.Reads as reads
-use Rattle.literals.proofs.scan_atoms.Lts as lts
+use Rattle.literals.proofs.false_atom.Statement.{statement}
+use Rattle.literals.proofs.false_atom.Tie as tie
+use Rattle.literals.proofs.false_atom.Reads as reads
+use Rattle.literals.proofs.false_atom.Lts as lts
 use Rattle.interpretation.proofs.value_of.Reads as value-of-reads
-use Rattle.literals.proofs.counted.Reads as counted-reads
 use Rattle.literals.proofs.refutes.Reads as refutes-reads
 use Rattle.literals.proofs.signed.Reads as signed-reads
 use Rattle.words.proofs.atom.Reads as atom-reads
 
 abbrev Inv-loop : tie.InvT-loop
-Inv-loop l sign values so₀ i₀ so i = (i ≤ length l) × (scanFrom (valued values) i so (atomLits sign (drop i l)) ≡ scanOf (valued values) (atomLits sign l))
+Inv-loop l sign values i₀ i = (i ≤ length l) × (firstFrom (valued values) i (atomLits sign (drop i l)) ≡ firstFalse (valued values) (atomLits sign l))
 
 abbrev μ-loop : tie.MeasureT-loop
-μ-loop l sign values so₀ i₀ so i = length l - i
+μ-loop l sign values i₀ i = length l - i
 
 loop-holds : tie.Need-loop-holds Inv-loop μ-loop
 loop-holds c = (omega arith, refl)
@@ -57,10 +54,7 @@ returns : tie.Need-returns Inv-loop μ-loop
 returns c =
     let b = c .before .before .before .before .before .before in
     let a = b .before .args in
-    sym (walk-false natAbs (atomLit (a .sign)) (valued (a .values .now)) (a .l .now) (b .loop .i) (b .loop .so) (c .before .before .before .before .before .loop-test .taken) _ (val (c .before .before)) (sym (c .before .refutes .ensures) ∙ c .if1 .taken)) ∙ b .loop .inv .1
-
-counted-requires : tie.Need-counted-requires Inv-loop μ-loop
-counted-requires c κs = search needs
+    sym (walk-false natAbs (atomLit (a .sign)) (valued (a .values .now)) (a .l .now) (b .loop .i) (c .before .before .before .before .before .loop-test .taken) _ (val (c .before .before)) (sym (c .before .refutes .ensures) ∙ c .if1 .taken)) ∙ b .loop .inv .1
 
 add-i : tie.Need-add-i Inv-loop μ-loop
 add-i c = omega arith
@@ -70,23 +64,21 @@ loop-less c = omega arith
 
 loop-again : tie.Need-loop-again Inv-loop μ-loop
 loop-again c =
-    let e = c .before in
-    let b = e .before .before .before .before .before .before in
-    let a = b .before .args in
-    let X = valued (a .values .now) in (
+    let b = c .before .before .before .before .before .before in
+    let a = b .before .args in (
       omega arith,
-      ap (λ (so : Scan). scanFrom X (b .loop .i + 1) so (atomLits (a .sign) (drop (b .loop .i + 1) (a .l .now)))) (c .counted .ensures)
-          ∙ sym (walk-on natAbs (atomLit (a .sign)) X (a .l .now) (b .loop .i) (b .loop .so) (e .before .before .before .before .before .loop-test .taken) _ (val (e .before .before)) (sym (e .before .refutes .ensures) ∙ e .if1 .left)) ∙ b .loop .inv .1,
+      sym (walk-on natAbs (atomLit (a .sign)) (valued (a .values .now)) (a .l .now) (b .loop .i) (c .before .before .before .before .before .loop-test .taken) _ (val (c .before .before)) (sym (c .before .refutes .ensures) ∙ c .if1 .left))
+          ∙ b .loop .inv .1,
     )
 
 returns-2 : tie.Need-returns-2 Inv-loop μ-loop
 returns-2 c =
     let b = c .before in
     let a = b .before .args in
-    sym (walk-end natAbs (atomLit (a .sign)) (valued (a .values .now)) (a .l .now) (b .loop .i) (b .loop .so) (c .loop-test .left)) ∙ b .loop .inv .1
+    sym (walk-end natAbs (atomLit (a .sign)) (valued (a .values .now)) (a .l .now) (b .loop .i) (c .loop-test .left)) ∙ b .loop .inv .1
 
-pub scan-atoms-spec : {M : Type 1} → statement M
-scan-atoms-spec =
+pub false-atom-spec : {M : Type 1} → statement M
+false-atom-spec =
     tie.close
     (tie.spec
     Inv-loop
@@ -97,7 +89,6 @@ scan-atoms-spec =
     signed-requires
     refutes-requires
     returns
-    counted-requires
     add-i
     loop-less
     loop-again
