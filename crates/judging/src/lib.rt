@@ -42,7 +42,7 @@ fn earned(buffer: Buffer) -> Fault
 fn refused(f: Refusal) -> Reading
     ensures { λ r. ⌜ r ≡ refusedReading f ⌝ }
 {
-    let starts = [0u16; 64];
+    let starts = [0u16; Table::AGGREGATES];
     let table = Table {
         atoms: 0,
         aggregates: 0,
@@ -79,7 +79,7 @@ fn words_judged(words: &[i32]) -> Reading
 pub fn judge(words: &[i32], buffer: Buffer) -> Reading
     ensures { λ r. ⌜ Judged (now (words .entry)) buffer r ⌝ }
 {
-    if Reading::WORDS < words.len() {
+    if Table::WORDS < words.len() {
         return refused(Refusal::TooManyWords);
     }
     let bad = earned(buffer);
