@@ -331,7 +331,7 @@ pub fn search(t: &[i32], tb: Table, limit: u32) -> Found
     requires { ⌜ Laid (now t) tb ⌝ }
     ensures { λ r. ⌜ Solves (base (programOf (now (t .entry)) tb) (tb .atoms)) limit r ⌝ }
 {
-    let mut lists = [0u16; 17922];
+    let mut lists = [0u16; heads::SIZE];
     heads::fill(t, tb, &mut lists);
     let it = Interpretation::start();
     let from = Start {

@@ -84,10 +84,13 @@ module _ (d : Lit) (a : ℕ → Cell) where
           let z : suc i + k ≡ i + suc k = omega arith in
           inl (suc k, first-later a i x s e ∙ g ∙ ap At z, record { within = let h = r .within in omega arith; first = ap (λ (b : Bool). cond b (some x) (firstOf (isFalse a) s)) e ∙ r .first; it-is = r .it-is })
       at (inr e) (inr (g, r)) =
-          inr (first-later a i x s e ∙ g, record {
-            none-false = ap (λ (b : Bool). b || any (isFalse a) s) e ∙ r .none-false;
-            no-first = ap (λ (b : Bool). cond b (some x) (firstOf (isFalse a) s)) e ∙ r .no-first;
-          })
+          inr (
+            first-later a i x s e ∙ g,
+            record {
+              none-false = ap (λ (b : Bool). b || any (isFalse a) s) e ∙ r .none-false;
+              no-first = ap (λ (b : Bool). cond b (some x) (firstOf (isFalse a) s)) e ∙ r .no-first;
+            },
+          )
 
   pub first-says : (s : List Lit) → Says d a s (firstFalse a s)
   first-says s = at (found s 0)

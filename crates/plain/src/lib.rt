@@ -46,7 +46,7 @@ pub fn solve(words: &[i32], limit: u32, plan: &mut [u8]) -> Solved
         Fault::Refused(f) => Solved::Refused(f),
         Fault::Nothing => {
             let tb = judged.table;
-            let mut lists = [0u16; 17922];
+            let mut lists = [0u16; heads::SIZE];
             heads::fill(words, tb, &mut lists);
             let found = try_side(words, tb, &lists, limit, [0u8; 256], 0);
             report(found, tb.atoms, plan)
