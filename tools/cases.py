@@ -5,7 +5,7 @@
 
 The random numbers have a fixed seed, so a run writes the same files each time.
 
-cases.bin, read by the program `vectors`: one case after the other up to the end of the file. All of it is
+cases.bin, read by the program `run_tables`: one case after the other up to the end of the file. All of it is
 numbers. A number from -4 to 250 is one byte, the number plus 4; any other is the byte 255 and four bytes,
 low byte first, two's complement. A case is
 
@@ -40,7 +40,7 @@ from generate import damaged_cases, limit_cases, list_cases, plan_cases, random_
 SEED = 20240117
 
 
-# ---- What the program `vectors` has to print for a case -----------------------------------------------------
+# ---- What the program `run_tables` has to print for a case -----------------------------------------------------
 
 
 def checksum(numbers):

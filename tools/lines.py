@@ -8,7 +8,7 @@ LINES has an input on one line and on the next, after `= `, what 01's definition
 and in short forms that it explains. To these come 01's example and cases, further texts at the edges of what a number
 is, and some larger tables, for which BASELINE (bench/src/check.rs built) prints the line.
 
-texts.bin, read by a program of `crates/`: one text after the other up to the end of the file, each after its
+texts.bin, read by the program `run_texts`: one text after the other up to the end of the file, each after its
 length in bytes, four bytes, low byte first. texts.stdout has one line a text.
 """
 

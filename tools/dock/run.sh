@@ -19,10 +19,10 @@ mkdir -p target/dock
 "$tools/ld.lld" -pie -melf_x86_64 -z relro -z now -z noexecstack -dynamic-linker /lib64/ld-linux-x86-64.so.2 -o target/dock/runs \
     "$lib/Scrt1.o" "$lib/crti.o" "$lib/crtbeginS.o" target/dock/runs.o "$library" \
     "$lib/libc.so.6" "$lib/libc_nonshared.a" "$lib/ld-linux-x86-64.so.2" "$lib/libgcc.a" "$lib/crtendS.o" "$lib/crtn.o"
-target/dock/runs tables <crates/vectors/stdin | cmp - crates/vectors/stdout
-echo "dock: $(wc -l <crates/vectors/stdout) tables through C: as expected"
-target/dock/runs texts <crates/texts/stdin | cmp - crates/texts/stdout
-echo "dock: $(wc -l <crates/texts/stdout) texts through C: as expected"
+target/dock/runs tables <crates/run_tables/stdin | cmp - crates/run_tables/stdout
+echo "dock: $(wc -l <crates/run_tables/stdout) tables through C: as expected"
+target/dock/runs texts <crates/run_texts/stdin | cmp - crates/run_texts/stdout
+echo "dock: $(wc -l <crates/run_texts/stdout) texts through C: as expected"
 if command -v cc >/dev/null && command -v rustc >/dev/null; then
     sh examples/test.sh
 else

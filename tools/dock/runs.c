@@ -70,7 +70,7 @@ static void put_atoms(const uint8_t *plan, long bytes) {
             put_number((unsigned long)i + 1);
 }
 
-/* ---- tables, as crates/vectors has them */
+/* ---- tables, as crates/run_tables has them */
 
 static int32_t words[32768];
 static uint8_t plan[257];
@@ -162,7 +162,7 @@ static void run_tables(void) {
     }
 }
 
-/* ---- texts, as crates/texts has them: the length in four bytes, then the bytes */
+/* ---- texts, as crates/run_texts has them: the length in four bytes, then the bytes */
 
 static uint8_t bytes[65537];
 
