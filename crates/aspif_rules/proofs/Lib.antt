@@ -1,0 +1,3 @@
+-- Laws that the proofs of the functions use.
+pub mod Literals
+pub mod Bodies
