@@ -59,9 +59,15 @@ enum {
 
 /* Looks for the first answer set with at most `limit` choices. On an answer the bytes of the table's atoms are
  * written to the plan; every other byte, and on any other result the whole plan, keeps its content. The report
- * needs two places; if it has fewer, nothing is written to it. */
+ * needs two places; if it has fewer, nothing is written to it.
+ *
+ * `whys` needs 512 places: atom i's round at 2 * (i - 1), and its rule after it. A true atom of an answer has a
+ * round of 1 to the number of atoms, and the number of a rule, from 1, whose body is true, whose only true head
+ * atom it is, and whose positive body atoms have smaller rounds. False atoms, atoms above the table's, and all
+ * atoms on any other result have 0 and 0. If there are fewer places, as for a caller who does not ask (NULL, 0),
+ * nothing is written to it. */
 uint32_t saucepebbly_solve(const int32_t *words, size_t words_len, uint32_t limit, uint8_t *plan, size_t plan_len,
-                           uint32_t *report, size_t report_len);
+                           uint32_t *report, size_t report_len, uint16_t *whys, size_t whys_len);
 
 /* Says whether the plan is an answer set. On a refusal the report gets its number and place. */
 uint32_t saucepebbly_approve(const int32_t *words, size_t words_len, const uint8_t *plan, size_t plan_len,

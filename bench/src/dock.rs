@@ -9,6 +9,8 @@ extern "C" {
         plan_len: usize,
         report: *mut u32,
         report_len: usize,
+        whys: *mut u16,
+        whys_len: usize,
     ) -> u32;
     fn saucepebbly_approve(
         words: *const i32,
@@ -22,9 +24,11 @@ extern "C" {
 
 pub fn solve(words: &[i32], limit: u32, plan: &mut [u8]) -> (u32, [u32; 2]) {
     let mut report = [0; 2];
+    let mut whys = [0; 512];
     // The slices are lent for the call only, with their own lengths.
     let kind = unsafe {
-        saucepebbly_solve(words.as_ptr(), words.len(), limit, plan.as_mut_ptr(), plan.len(), report.as_mut_ptr(), 2)
+        let (plan, plan_len) = (plan.as_mut_ptr(), plan.len());
+        saucepebbly_solve(words.as_ptr(), words.len(), limit, plan, plan_len, report.as_mut_ptr(), 2, whys.as_mut_ptr(), 512)
     };
     (kind, report)
 }

@@ -22,7 +22,7 @@ static void *plain(void *unused) {
 }
 
 static void *jumping(void *unused) {
-    kind = saucepebbly_solve(words, sizeof words / sizeof *words, limit, plan, sizeof plan, report, 2);
+    kind = saucepebbly_solve(words, sizeof words / sizeof *words, limit, plan, sizeof plan, report, 2, NULL, 0);
     return unused;
 }
 

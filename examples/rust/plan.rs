@@ -12,6 +12,8 @@ mod saucepebbly {
             plan_len: usize,
             report: *mut u32,
             report_len: usize,
+            whys: *mut u16,
+            whys_len: usize,
         ) -> u32;
         fn saucepebbly_approve(
             words: *const i32,
@@ -38,20 +40,32 @@ mod saucepebbly {
         Refused { number: u32, place: u32 },
     }
 
-    pub fn solve(words: &[i32], limit: u32, plan: &mut [u8]) -> Solved {
+    /// Why an atom is in the plan: its round and its rule, 0 and 0 if it is not.
+    #[derive(Clone, Copy, Debug, Default, PartialEq)]
+    #[repr(C)]
+    pub struct Why {
+        pub round: u16,
+        pub rule: u16,
+    }
+
+    /// The result, and of an answer why each atom is in the plan, atom i at index i - 1.
+    pub fn solve(words: &[i32], limit: u32, plan: &mut [u8]) -> (Solved, [Why; 256]) {
         let mut report = [0; 2];
-        // Each pointer comes with the length of its own slice, and the entry keeps none of them.
+        let mut whys = [Why::default(); 256];
+        // Each pointer comes with the length of its own slice, and the entry keeps none of them. A `Why` is two numbers.
         let kind = unsafe {
             let (plan, plan_len) = (plan.as_mut_ptr(), plan.len());
-            saucepebbly_solve(words.as_ptr(), words.len(), limit, plan, plan_len, report.as_mut_ptr(), report.len())
+            let numbers = whys.as_mut_ptr().cast::<u16>();
+            saucepebbly_solve(words.as_ptr(), words.len(), limit, plan, plan_len, report.as_mut_ptr(), report.len(), numbers, 512)
         };
         let [first, second] = report;
-        match kind {
+        let solved = match kind {
             0 => Solved::Answer { choices: first, skips: second },
             1 => Solved::None { choices: first, skips: second },
             2 => Solved::Limit { choices: first, skips: second },
             _ => Solved::Refused { number: first, place: second },
-        }
+        };
+        (solved, whys)
     }
 
     pub fn approve(words: &[i32], plan: &[u8]) -> Approved {
@@ -75,7 +89,7 @@ mod saucepebbly {
     }
 }
 
-use saucepebbly::{approve, solve, Approved, Solved};
+use saucepebbly::{approve, solve, Approved, Solved, Why};
 
 const UNTOUCHED: u8 = 7;
 
@@ -87,9 +101,33 @@ const TABLE: [i32; 55] = [
     0, 3, 1, 5, 7, 0, 0,  0, 3, 1, 5, 8, 0, 0,  0, 3, 1, 6, 7, 0, 0,  0, 3, 1, 6, 8, 0, 0,
 ];
 
+/// 1 | 2.  3 :- 1.  4 :- 3, not 2.  5 :- 4.  5 :- 1, 3.
+#[rustfmt::skip]
+const CHAIN: [i32; 35] = [
+    5, 0, 5, 2, 1, 2, 0, 0, 0, 1, 3, 1, 1, 0, 0, 1, 4, 1, 3, 1, 2, 0, 1, 5, 1, 4, 0, 0, 1, 5, 2, 1, 3, 0, 0,
+];
+
+/// The positive body atoms of a rule, from 1, of a table without aggregates: each rule is four lists after their counts.
+fn positive(words: &[i32], rule: u16) -> &[i32] {
+    let mut at = 3;
+    for _ in 0..4 * (usize::from(rule) - 1) + 1 {
+        at += 1 + words[at] as usize;
+    }
+    &words[at + 1..][..words[at] as usize]
+}
+
+/// Why an atom is in the plan: its rule, and below it the same for each positive body atom of that rule. Rounds get smaller, so this ends.
+fn explain(words: &[i32], whys: &[Why; 256], atom: usize, depth: usize) {
+    let Why { round, rule } = whys[atom - 1];
+    println!("{:1$}{atom}: rule {rule}, round {round}", "", 2 * depth);
+    for &part in positive(words, rule) {
+        explain(words, whys, part as usize, depth + 1);
+    }
+}
+
 fn main() {
     let mut plan = [UNTOUCHED; 300];
-    let Solved::Answer { choices, skips } = solve(&TABLE, 100, &mut plan) else { panic!("an answer") };
+    let (Solved::Answer { choices, skips }, _) = solve(&TABLE, 100, &mut plan) else { panic!("an answer") };
     assert!(plan[8..].iter().all(|&byte| byte == UNTOUCHED), "bytes past the atoms are kept");
     let atoms: Vec<String> = (1..=8).filter(|&i| plan[i - 1] == 1).map(|i| i.to_string()).collect();
     println!("answer {choices} {skips}: {}", atoms.join(" "));
@@ -104,13 +142,18 @@ fn main() {
     println!("yes, no, refused {number} {place}");
 
     let mut plan = [UNTOUCHED; 300];
-    let Solved::Limit { choices, skips } = solve(&TABLE, 5, &mut plan) else { panic!("the limit") };
+    let (Solved::Limit { choices, skips }, whys) = solve(&TABLE, 5, &mut plan) else { panic!("the limit") };
+    assert_eq!(whys, [Why::default(); 256], "only an answer has rounds");
     println!("limit {choices} {skips}");
-    let Solved::None { choices, skips } = solve(&[1, 0, 1, 1, 1, 0, 1, 1, 0], 100, &mut plan) else { panic!("none") };
+    let (Solved::None { choices, skips }, _) = solve(&[1, 0, 1, 1, 1, 0, 1, 1, 0], 100, &mut plan) else { panic!("none") };
     println!("none {choices} {skips}");
     for (words, length) in [(&TABLE[..4], 300), (&TABLE[..], 255), (&[][..], 300)] {
-        let Solved::Refused { number, place } = solve(words, 100, &mut plan[..length]) else { panic!("a refusal") };
+        let (Solved::Refused { number, place }, _) = solve(words, 100, &mut plan[..length]) else { panic!("a refusal") };
         println!("refused {number} {place}");
     }
     assert_eq!(plan, [UNTOUCHED; 300], "only an answer writes the plan");
+
+    let (Solved::Answer { .. }, whys) = solve(&CHAIN, 100, &mut plan) else { panic!("an answer") };
+    assert_eq!(whys[1], Why::default(), "atom 2 is false and has no round");
+    explain(&CHAIN, &whys, 5, 0);
 }

@@ -23,6 +23,8 @@ target/dock/runs tables <crates/run_tables/stdin | cmp - crates/run_tables/stdou
 echo "dock: $(wc -l <crates/run_tables/stdout) tables through C: as expected"
 target/dock/runs texts <crates/run_texts/stdin | cmp - crates/run_texts/stdout
 echo "dock: $(wc -l <crates/run_texts/stdout) texts through C: as expected"
+target/dock/runs whys <crates/run_why/stdin | cmp - crates/run_why/stdout
+echo "dock: $(($(wc -l <crates/run_why/stdout) / 2)) explained plans through C: as expected"
 if command -v cc >/dev/null && command -v rustc >/dev/null; then
     sh examples/test.sh
 else

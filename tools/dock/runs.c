@@ -1,4 +1,4 @@
-/* Runs the gate's tables and texts over the compiled library: runs tables | runs texts. Input from standard input, a line for each case to standard
+/* Runs the gate's tables and texts over the compiled library: runs tables | runs texts | runs whys. Input from standard input, a line for each case to standard
  * output, as the programs that the gate runs print them. Needs no header of the C library, so that the kit's own compiler builds it. */
 #define SAUCEPEBBLY_TYPES_GIVEN
 typedef unsigned long size_t;
@@ -74,6 +74,7 @@ static void put_atoms(const uint8_t *plan, long bytes) {
 
 static int32_t words[32768];
 static uint8_t plan[257];
+static uint16_t whys[512];
 
 static unsigned long mixed(unsigned long sum, unsigned long x) {
     return (sum * 33 + x + 1) % 65521;
@@ -121,7 +122,7 @@ static void put_approved(long count, long room) {
 static void run_table(long count, long room) {
     uint32_t checked[2] = {0, 0}, solved[2] = {0, 0};
     uint32_t verdict = saucepebbly_approve(words, (size_t)count, plan, (size_t)room, checked, 2);
-    uint32_t kind = saucepebbly_solve(words, (size_t)count, 4294967295u, plan, (size_t)room, solved, 2);
+    uint32_t kind = saucepebbly_solve(words, (size_t)count, 4294967295u, plan, (size_t)room, solved, 2, (uint16_t *)0, 0);
     if (kind == SAUCEPEBBLY_ANSWER) {
         put_text("answer");
         put_atoms(plan, room);
@@ -206,6 +207,18 @@ static uint32_t read_text(size_t n, uint32_t *limit, size_t *count, uint32_t *pl
     return number == 0 ? 12 : 0;
 }
 
+/* Each atom that has a round or a rule, with both. */
+static void put_whys(void) {
+    put_text("why");
+    for (unsigned long i = 0; i < 256; i++)
+        if (whys[2 * i] || whys[2 * i + 1]) {
+            put_number(i + 1);
+            put_number(whys[2 * i]);
+            put_number(whys[2 * i + 1]);
+        }
+    put('\n');
+}
+
 static void run_text(size_t n) {
     static const char *const names[] = {"answer", "none", "limit", "refused"};
     uint32_t report[2] = {0, 0}, limit = 0, kind = SAUCEPEBBLY_REFUSED;
@@ -213,8 +226,10 @@ static void run_text(size_t n) {
     report[0] = read_text(n, &limit, &count, &report[1]);
     for (int i = 0; i < 256; i++)
         plan[i] = 0;
+    for (int i = 0; i < 512; i++)
+        whys[i] = 9;
     if (report[0] == 0)
-        kind = saucepebbly_solve(words, count, limit, plan, 256, report, 2);
+        kind = saucepebbly_solve(words, count, limit, plan, 256, report, 2, whys, 512);
     put_text(names[kind]);
     put_number(report[0]);
     put_number(report[1]);
@@ -225,7 +240,8 @@ static void run_text(size_t n) {
     put('\n');
 }
 
-static void run_texts(void) {
+/* With the rounds and rules after each line, as crates/run_why has them, or without. */
+static void run_texts(int is_why) {
     for (;;) {
         size_t n = 0;
         for (int i = 0; i < 4; i++) {
@@ -240,12 +256,16 @@ static void run_texts(void) {
                 bytes[i] = (uint8_t)b;
         }
         run_text(n);
+        if (is_why)
+            put_whys();
     }
 }
 
 int main(int argc, char **argv) {
-    if (argc == 2 && argv[1][0] == 't' && argv[1][1] == 'e')
-        run_texts();
+    if (argc == 2 && argv[1][0] == 'w')
+        run_texts(1);
+    else if (argc == 2 && argv[1][0] == 't' && argv[1][1] == 'e')
+        run_texts(0);
     else
         run_tables();
     flush();

@@ -1,22 +1,25 @@
--- Each entry's promise has one answer only: the kind, the report and the later plan. Assumes nothing.
+-- Each entry's promise has one answer only: the kind, the report, the later plan and the rounds and rules. Assumes nothing.
 use mathlib.Core.Path.{_≡_, sym, _∙_, ap}
 use mathlib.Core.List.{List}
 use Prim.Native.Nat.{ℕ}
 use lib.IntN.{ℤ}
 use Rattle.results.specs.Results.{kindOf, checkKind}
-use Rattle.results.specs.declared.Solved.{Solved}
 use Rattle.results.specs.declared.Checked.{Checked}
-use Rattle.solver.proofs.Unique.{solving-unique, approving-unique}
+use Rattle.solver.specs.declared.Solution.{Solution}
+use Rattle.solver.proofs.Unique.{solution-unique, approving-unique}
+use Rattle.dock.specs.Whys.{whysWritten}
 use Rattle.dock.specs.Dock.{firstOf, secondOf, reported, checkReport, Solves, Approves}
 
-pub solves-unique : (t : List ℤ) (lim : ℕ) (old report : List ℕ) (new new′ told told′ : List ℕ) (k k′ : ℕ) → Solves t lim old new report told k → Solves t lim old new′ report told′ k′
-    → (k ≡ k′) × (new ≡ new′) × (told ≡ told′)
-solves-unique t lim old report new new′ told told′ k k′ a b =
-    let u = solving-unique t lim old new new′ (a .result) (b .result) (a .solving) (b .solving) in (
-      a .kind ∙ ap kindOf (u .0) ∙ sym (b .kind),
-      u .1,
-      a .report ∙ ap (λ (r : Solved). reported (firstOf r) (secondOf r) report) (u .0) ∙ sym (b .report),
-    )
+module _ (t : List ℤ) (lim : ℕ) (old report whys : List ℕ) where
+  pub solves-unique : (new new′ told told′ shown shown′ : List ℕ) (k k′ : ℕ) → Solves t lim old new report told whys shown k → Solves t lim old new′ report told′ whys shown′ k′
+      → (k ≡ k′) × (new ≡ new′) × (told ≡ told′) × (shown ≡ shown′)
+  solves-unique new new′ told told′ shown shown′ k k′ a b =
+      let u = solution-unique t lim old new new′ (record { solved = a .result; whys = a .records }) (record { solved = b .result; whys = b .records }) (a .solving, a .explaining) (b .solving, b .explaining) in (
+        a .kind ∙ ap (λ (r : Solution). kindOf (r .solved)) (u .0) ∙ sym (b .kind),
+        u .1,
+        a .report ∙ ap (λ (r : Solution). reported (firstOf (r .solved)) (secondOf (r .solved)) report) (u .0) ∙ sym (b .report),
+        a .whys ∙ ap (λ (r : Solution). whysWritten (r .whys) whys) (u .0) ∙ sym (b .whys),
+      )
 
 pub approves-unique : (t : List ℤ) (plan report told told′ : List ℕ) (k k′ : ℕ) → Approves t plan report told k → Approves t plan report told′ k′ → (k ≡ k′) × (told ≡ told′)
 approves-unique t plan report told told′ k k′ a b =

@@ -1,5 +1,5 @@
 -- What the entries of include/saucepebbly.h promise, for every input: what the solver promises of a result, with the result's kind and its two
--- numbers. Definitions only: to be believed.
+-- numbers, and of an answer the rounds and rules as numbers (`specs/Whys.antt`). Definitions only: to be believed.
 --   firstOf, secondOf      "counts or number and place": choices and skips, of a refusal its number and place
 --   narrow                 a place as 32 bits; a larger one would stand as the largest number, but none is (`proofs/Places.antt`)
 --   reported               "a lent pair of numbers": the first two places of the report, if it has two; else nothing is written
@@ -9,13 +9,18 @@ use mathlib.Core.Path.{_≡_}
 use mathlib.Core.List.{List, [], _∷_}
 use Prim.Native.Nat.{ℕ, min}
 use lib.IntN.{ℤ}
+use lib.ListN.{length}
 use Rattle.results.specs.Results.{numberOf, placeOf, kindOf, checkKind}
 use Rattle.results.specs.declared.Solved.{Solved}
 use Rattle.results.specs.declared.Solved.the-variants as solved
 use Rattle.results.specs.declared.Checked.{Checked}
 use Rattle.results.specs.declared.Checked.the-variants as checked
+use Rattle.rounds.specs.declared.Why.{Why}
+use Rattle.judging.specs.declared.Buffer.the-variants.{Plan}
 use Rattle.solver.specs.Solving.{Solving}
+use Rattle.solver.specs.Explaining.{Explaining}
 use Rattle.solver.specs.Approving.{Approving}
+use Rattle.dock.specs.Whys.{whysWritten}
 
 abbrev pub narrow : ℕ → ℕ
 narrow n = min n 4294967295
@@ -43,11 +48,14 @@ checkReport checked.Yes old = old
 checkReport checked.No old = old
 checkReport (checked.Refused f) old = reported (numberOf f) (narrow (placeOf f)) old
 
-pub record Solves (t : List ℤ) (lim : ℕ) (oldPlan newPlan oldReport newReport : List ℕ) (k : ℕ) : Type 0 where
+pub record Solves (t : List ℤ) (lim : ℕ) (oldPlan newPlan oldReport newReport oldWhys newWhys : List ℕ) (k : ℕ) : Type 0 where
   pub result : Solved
+  pub records : List Why
   pub solving : Solving t lim oldPlan newPlan result
+  pub explaining : Explaining t (Plan (length oldPlan)) newPlan result records
   pub kind : k ≡ kindOf result
   pub report : newReport ≡ reported (firstOf result) (secondOf result) oldReport
+  pub whys : newWhys ≡ whysWritten records oldWhys
 
 pub record Approves (t : List ℤ) (plan oldReport newReport : List ℕ) (k : ℕ) : Type 0 where
   pub result : Checked

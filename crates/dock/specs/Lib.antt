@@ -1,3 +1,4 @@
 -- The definitions that the contracts cite.
+pub mod Whys
 pub mod Dock
 pub mod Plain

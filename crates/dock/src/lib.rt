@@ -7,6 +7,7 @@ use results::Checked;
 use results::Solved;
 
 mod plainly;
+mod whys;
 
 // The kind of a result.
 fn kind(solved: Solved) -> u32
@@ -65,17 +66,21 @@ fn write(report: &mut [u32], first: u32, second: u32)
     report[1] = second;
 }
 
-// The night's plan: the kind of the result, and in the report its two numbers.
+// The night's plan: the kind of the result, in the report its two numbers, and for each atom its round and its rule.
 #[no_mangle]
 pub extern "C" fn saucepebbly_solve(
     words: &[i32],
     limit: u32,
     plan: &mut [u8],
     report: &mut [u32],
+    whys: &mut [u16],
 ) -> u32
-    ensures { λ k. ⌜ Solves (now (words .entry)) limit (now (plan .entry)) (now (plan .exit)) (now (report .entry)) (now (report .exit)) k ⌝ }
+    ensures { λ k. ⌜ Solves (now (words .entry)) limit (now (plan .entry)) (now (plan .exit)) (now (report .entry)) (now (report .exit)) (now (whys .entry)) (now (whys .exit)) k ⌝ }
 {
-    let solved = solver::solve(words, limit, plan);
+    let solution = solver::solve(words, limit, plan);
+    let solved = solution.solved;
+    let records = solution.whys;
+    whys::write(records, whys);
     write(report, first(solved), second(solved));
     kind(solved)
 }

@@ -6,6 +6,7 @@
 --   Explains P X w   the same said of any rounds and rules w, with no computation: there is one such w for a founded X, and it is `whyOf`
 --   Shown            "each rule shown has a true body, the atom as its only true head atom, and positive body atoms of smaller rounds"
 --   Recorded ws w    an array of 256 records holds these rounds and rules, atom p's at index p - 1 (`whysIn`)
+--   Explained        all that is promised of the records that come with an answer set
 -- Assumes nothing.
 use mathlib.Core.Path.{_≡_}
 use mathlib.Core.Logic.{_⊎_}
@@ -95,3 +96,10 @@ whysIn ws (suc i) = getD ws i noWhy
 pub record Recorded (ws : List Why) (w : ℕ → Why) : Type 0 where
   pub number : length ws ≡ 256
   pub each : whysIn ws ≡ w
+
+-- of an answer set X of P, over the atoms 1 to n
+pub record Explained (P : Program) (n : ℕ) (X : Atoms) (ws : List Why) : Type 0 where
+  -- the records are those of the definition, "false atoms .. have 0 in both", and so has every atom above n
+  pub defined : Recorded ws (whyOf P n X)
+  pub explains : Explains P X (whysIn ws)
+  pub shown : (p : ℕ) → Is (X p) → Shown P n X (whysIn ws) p

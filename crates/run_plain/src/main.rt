@@ -55,7 +55,8 @@ fn run_table(words: &[i32], limit: u32) {
     let solved = plain::solve(words, limit, &mut plan);
     print_line(solved, &plan);
     let mut other = [0u8; 256];
-    let jumped = solver::solve(words, limit, &mut other);
+    let solution = solver::solve(words, limit, &mut other);
+    let jumped = solution.solved;
     let kind = code(solved);
     if kind != 2 {
         if kind != code(jumped) || !same_plan(&plan, &other) {

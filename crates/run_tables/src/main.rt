@@ -121,7 +121,8 @@ fn print_plans(is_accepted: bool, table: &[i32], plan: &mut [u8]) {
 // A case's line.
 fn print_line(table: &[i32], plan: &mut [u8]) {
     let checked = solver::approve(table, plan);
-    let solved = solver::solve(table, 4294967295, plan);
+    let solution = solver::solve(table, 4294967295, plan);
+    let solved = solution.solved;
     print_solved(solved, plan);
     output::text(b" /");
     output::number(output::checksum(plan));

@@ -4,6 +4,7 @@ pub mod Entry
 pub mod Bytes
 pub mod Offered
 pub mod Approved
+pub mod Explained
 pub mod Values
 pub mod Unique
 pub mod Places

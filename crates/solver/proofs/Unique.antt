@@ -1,5 +1,5 @@
 -- Each promise has one answer only: two results, and two later buffers, that meet it for the same input are equal. Assumes nothing.
---   solving-unique     of the whole promise of `solve`
+--   solving-unique     of the promise of `solve` on result and plan;  explaining-unique: on rounds and rules;  solution-unique: of the whole
 --   meaning-unique     of demand 2 alone, as far as the kind of the result and the plan go, short of the limit
 --   approving-unique   of the promise of `approve`
 use mathlib.Core.Path.{_≡_, refl, sym, _∙_, ap, subst}
@@ -15,20 +15,25 @@ use Rattle.meaning.specs.Aggregates.{Atoms}
 use Rattle.meaning.specs.Answers.{model, AnswerSet}
 use Rattle.meaning.specs.Foundedness.{founded}
 use Rattle.meaning.proofs.Tools.{clash}
-use Rattle.meaning.proofs.Cond.{some-inj}
+use Rattle.meaning.proofs.Cond.{some-inj, eqCase}
 use Rattle.meaning.proofs.Order.{first-unique}
 use Rattle.results.specs.declared.Refusal.{Refusal}
 use Rattle.results.specs.declared.Checked.{Checked}
-use Rattle.results.specs.Results.{numberOf, placeOf, kindOf, reportOf, refusalReport}
+use Rattle.results.specs.Results.{numberOf, placeOf, kindOf, Report, reportOf, refusalReport}
 use Rattle.results.proofs.Determined.{report-determines, check-determines}
 use Rattle.results.specs.declared.Solved.{Solved}
 use Rattle.results.specs.declared.Solved.the-variants as solved
+use Rattle.rounds.specs.declared.Why.{Why}
+use Rattle.rounds.specs.Rounds.{noWhys}
+use Rattle.rounds.proofs.Records.{recorded-one}
 use Rattle.search.specs.Search.{Outcome}
 use Rattle.table.specs.Contents.{Contents, program}
 use Rattle.judging.specs.declared.Buffer.the-variants.{Plan}
 use Rattle.judging.specs.Refusals.{Accepted, Refused}
 use Rattle.judging.proofs.Judged.{Decided, decided}
 use Rattle.solver.specs.Approving.{planAtoms, CheckRefused, before, byte, Bits, BadByte, Approving}
+use Rattle.solver.specs.Explaining.{Explaining}
+use Rattle.solver.specs.declared.Solution.{Solution}
 use Rattle.solver.proofs.Offered.{bad-or-good}
 use Rattle.solver.proofs.Approved.{plan-range, tested-answer, answer-tested}
 use Rattle.table.proofs.Accepted.{accepted-atoms}
@@ -50,6 +55,36 @@ module _ (t : List ℤ) (lim : ℕ) (old : List ℕ) where
 
   pub solving-unique : (new new′ : List ℕ) (r r′ : Solved) → Solving t lim old new r → Solving t lim old new′ r′ → (r ≡ r′) × (new ≡ new′)
   solving-unique = unique-by (decided t (Plan (length old)))
+
+-- ---- rounds and rules
+
+-- what a refused table gives is no answer
+refused-kind : (t : List ℤ) (lim : ℕ) (old new : List ℕ) (r : Solved) → Solving t lim old new r → (n i : ℕ) → Refused t (Plan (length old)) n i → kindOf r ≢ 0
+refused-kind t lim old new r a n i h e =
+    let k : kindOf r ≡ 3 = ap (λ (x : Report). x .kind) (a .refused n i .1 h) in
+    omega arith
+
+module _ (t : List ℤ) (lim : ℕ) (old new : List ℕ) (r : Solved) (s : Solving t lim old new r) (ws ws′ : List Why) (a : Explaining t (Plan (length old)) new r ws) (b : Explaining t (Plan (length old)) new r ws′) where
+  pub explaining-unique : ws ≡ ws′
+  explaining-unique = at (decided t (Plan (length old))) (eqCase (kindOf r) 0)
+    where
+      at : Decided t (Plan (length old)) → (kindOf r ≡ 0) ⊎ (kindOf r ≢ 0) → ws ≡ ws′
+      at d (inr n) = recorded-one ws ws′ noWhys (a .others n) (b .others n)
+      at (inl (f, h)) (inl e) = absurd (refused-kind t lim old new r s (numberOf f) (placeOf f) h e)
+      at (inr (c, h)) (inl e) = recorded-one ws ws′ _ (a .answers c h e .defined) (b .answers c h e .defined)
+
+-- two whole results
+module _ (t : List ℤ) (lim : ℕ) (old : List ℕ) where
+  -- what is promised of a result
+  abbrev pub Promised : List ℕ → Solution → Type 0
+  Promised new r = Solving t lim old new (r .solved) × Explaining t (Plan (length old)) new (r .solved) (r .whys)
+
+  pub solution-unique : (new new′ : List ℕ) (r r′ : Solution) → Promised new r → Promised new′ r′ → (r ≡ r′) × (new ≡ new′)
+  solution-unique new new′ r r′ a b =
+      let u = solving-unique t lim old new new′ (r .solved) (r′ .solved) (a .0) (b .0) in
+      let c = subst (λ (p : List ℕ). Explaining t (Plan (length old)) p (r .solved) (r′ .whys)) (sym (u .1)) (subst (λ (x : Solved). Explaining t (Plan (length old)) new′ x (r′ .whys)) (sym (u .0)) (b .1)) in
+      let w = explaining-unique t lim old new (r .solved) (a .0) (r .whys) (r′ .whys) (a .1) c in
+      (λ i. record { solved = u .0 i; whys = w i }, u .1)
 
 -- ---- from the meaning alone
 

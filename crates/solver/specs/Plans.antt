@@ -3,6 +3,7 @@
 --   badFrom              the first byte of k from index i on that is neither 0 nor 1
 --   checkedBy            the check's result, by that byte, the model test and the foundedness test
 --   Offers               the values of an offered plan
+--   whysFor              the rounds and rules that come with a result, where those of the plan are w
 -- Assumes nothing.
 use mathlib.Core.Path.{_≡_}
 use mathlib.Core.Bool.{Bool, true, false}
@@ -16,6 +17,9 @@ use Rattle.results.specs.declared.Refusal.the-variants as refusal
 use Rattle.results.specs.declared.Solved.{Solved}
 use Rattle.results.specs.declared.Checked.{Checked}
 use Rattle.results.specs.declared.Checked.the-variants as checked
+use Rattle.results.specs.declared.Solved.the-variants as solved
+use Rattle.rounds.specs.declared.Why.{Why}
+use Rattle.rounds.specs.Rounds.{noWhys}
 use Rattle.search.specs.Search.{Result}
 use Rattle.jumping.specs.declared.Found.{Found}
 use Rattle.jumping.specs.Jumping.{resultOf}
@@ -53,3 +57,18 @@ checkedBy offer.Good false f = checked.No
 pub record Offers (n : ℕ) (plan values : List ℕ) : Type 0 where
   pub says : trueAtoms n (valued values) ≡ planAtoms n plan
   pub whole : AllDefined n (valued values)
+
+-- ---- rounds and rules
+
+abbrev pub isAnswer : Solved → Bool
+isAnswer (solved.Answer c s) = true
+isAnswer (solved.Nothing c s) = false
+isAnswer (solved.Limit c s) = false
+isAnswer (solved.Refused f) = false
+
+abbrev pub whysIf : Bool → (ℕ → Why) → ℕ → Why
+whysIf true w = w
+whysIf false w = noWhys
+
+abbrev pub whysFor : Solved → (ℕ → Why) → ℕ → Why
+whysFor r w = whysIf (isAnswer r) w

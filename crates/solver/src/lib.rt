@@ -6,36 +6,77 @@ ghost use lib.ListN.{length};
 ghost use Rattle.meaning.specs.Answers.{model};
 ghost use Rattle.meaning.specs.Foundedness.{founded};
 ghost use Rattle.layout.specs.Layout.{Laid, programOf};
+ghost use Rattle.judging.specs.declared.Buffer.the-variants.{Plan};
+ghost use Rattle.rounds.specs.Rounds.{whyOf, Recorded};
 ghost use Rattle.solver.specs.Solving.{Solving};
+ghost use Rattle.solver.specs.Explaining.{Explaining};
 ghost use Rattle.solver.specs.Approving.{planAtoms, Approving};
-ghost use Rattle.solver.specs.Plans.{badFrom, checkedBy};
+ghost use Rattle.solver.specs.Plans.{badFrom, checkedBy, isAnswer, whysFor};
 use judging::Buffer;
 use layout::Table;
 use plans::Offer;
 use results::Checked;
 use results::Refusal;
 use results::Solved;
+use rounds::Why;
 use table::Fault;
 
 mod plans;
 
+// What comes back from solving: the result, and for each atom why it is in the plan, atom p's at index p - 1.
+pub struct Solution {
+    pub solved: Solved,
+    pub whys: [Why; 256],
+}
+
 // The night's plan: an answer, none or limit with the choices and the skips, or a refusal. Only an answer writes, and only the bytes of the
-// table's own atoms.
-pub fn solve(words: &[i32], limit: u32, plan: &mut [u8]) -> Solved
-    ensures { λ r. ⌜ Solving (now (words .entry)) limit (now (plan .entry)) (now (plan .exit)) r ⌝ }
+// table's own atoms; only an answer explains.
+pub fn solve(words: &[i32], limit: u32, plan: &mut [u8]) -> Solution
+    ensures { λ r. ⌜ Solving (now (words .entry)) limit (now (plan .entry)) (now (plan .exit)) (r .solved)
+        × Explaining (now (words .entry)) (Plan (length (now (plan .entry)))) (now (plan .exit)) (r .solved) (r .whys) ⌝ }
 {
     let room = plan.len();
     let judged = judging::judge(words, Buffer::Plan(room));
     let fault = judged.fault;
     match fault {
-        Fault::Refused(f) => Solved::Refused(f),
+        Fault::Refused(f) => {
+            let solved = Solved::Refused(f);
+            let whys = explaining::nothing();
+            Solution { solved, whys }
+        }
         Fault::Nothing => {
             let tb = judged.table;
             let found = jumping::search(words, tb, limit);
             let atoms = tb.atoms;
-            plans::report(found, atoms, plan)
+            let solved = plans::report(found, atoms, plan);
+            let whys = whys_for(words, tb, solved, plan);
+            Solution { solved, whys }
         }
     }
+}
+
+// Only an answer comes with rounds and rules.
+fn is_answer(solved: Solved) -> bool
+    ensures { λ r. ⌜ r ≡ isAnswer solved ⌝ }
+{
+    match solved {
+        Solved::Answer(_, _) => true,
+        Solved::Nothing(_, _) => false,
+        Solved::Limit(_, _) => false,
+        Solved::Refused(_) => false,
+    }
+}
+
+// Why each atom is in the plan that was written; without an answer no atom has a round or a rule.
+fn whys_for(words: &[i32], tb: Table, solved: Solved, plan: &[u8]) -> [Why; 256]
+    requires { ⌜ Laid (now words) tb × (256 ≤ length (now plan)) ⌝ }
+    ensures { λ r. ⌜ Recorded r (whysFor solved (whyOf (programOf (now (words .entry)) tb) (tb .atoms) (planAtoms (tb .atoms) (now (plan .entry))))) ⌝ }
+{
+    if !is_answer(solved) {
+        return explaining::nothing();
+    }
+    let values = plans::values_of(plan, tb.atoms);
+    explaining::explain(words, tb, &values)
 }
 
 // Whether an offered plan is an answer set of the table, or a refusal. It makes no search and never writes.

@@ -1,4 +1,4 @@
--- `dock::saucepebbly_solve` meets its contract: the solver's promise, with the result's kind and numbers. Assumes nothing.
+-- `dock::saucepebbly_solve` meets its contract: the solver's promise, with the result's kind and numbers, and the rounds and rules. Assumes nothing.
 use borrow.Author.Needs.{needs}
 use mathlib.Core.Path.{_≡_, sym, ap, _∙_}
 use Prim.Native.Nat.{ℕ}
@@ -9,14 +9,17 @@ use Rattle.dock.proofs.saucepebbly_solve.Tie as tie
 solve-requires : tie.Need-solve-requires
 solve-requires c κs = search needs
 
+write-requires : tie.Need-write-requires
+write-requires c κs = search needs
+
 first-requires : tie.Need-first-requires
 first-requires c κs = search needs
 
 second-requires : tie.Need-second-requires
 second-requires c κs = search needs
 
-write-requires : tie.Need-write-requires
-write-requires c κs = search needs
+write-requires-2 : tie.Need-write-requires-2
+write-requires-2 c κs = search needs
 
 kind-requires : tie.Need-kind-requires
 kind-requires c κs = search needs
@@ -27,19 +30,26 @@ same-length c = search needs
 same-length-2 : tie.Need-same-length-2
 same-length-2 c = search needs
 
+same-length-3 : tie.Need-same-length-3
+same-length-3 c = search needs
+
 returns : tie.Need-returns
 returns c =
     let w = c .before .before .before in
     let s = w .before in
     let f = s .before in
-    let r = f .before .before .before .before in
-    let q = r .solve .result in
-    let old = r .before .before .before .before .args .report .now in
+    let y = f .before .before .before .before in
+    let r = y .before .before .before .before .before in
+    let q = r .solve .result .solved in
+    let old = r .before .before .before .before .before .args .report .now in
     record {
       result = q;
-      solving = r .solve .ensures;
+      records = r .solve .result .whys;
+      solving = r .solve .ensures .0;
+      explaining = r .solve .ensures .1;
       kind = c .kind .ensures;
-      report = w .write .ensures ∙ ap (λ (m : ℕ). reported m (s .second .result) old) (f .first .ensures) ∙ ap (λ (n : ℕ). reported (firstOf q) n old) (s .second .ensures);
+      report = w .write2 .ensures ∙ ap (λ (m : ℕ). reported m (s .second .result) old) (f .first .ensures) ∙ ap (λ (n : ℕ). reported (firstOf q) n old) (s .second .ensures);
+      whys = y .write .ensures;
     }
 
 pub saucepebbly-solve-spec : {M : Type 1} → statement M
@@ -47,10 +57,12 @@ saucepebbly-solve-spec =
     tie.close
     (tie.spec
     solve-requires
+    write-requires
     first-requires
     second-requires
-    write-requires
+    write-requires-2
     kind-requires
     same-length
     same-length-2
+    same-length-3
     returns)
