@@ -3,4 +3,4 @@
 mod number;
 pub mod printer;
 pub mod reader;
-mod scan;
+pub mod scan;

@@ -1,0 +1,3 @@
+-- What the proofs of several functions share. Assumes nothing.
+pub mod Numbers
+pub mod Laws
