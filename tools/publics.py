@@ -76,15 +76,21 @@ def said(fact, thing):
     return "in part" if thing in fact else "-"
 
 
+def most(sayings):
+    """What the clauses of a contract say together: the first that says something."""
+    return next((saying for saying in sayings if saying != "-"), "-")
+
+
 def row_of(path, name, parameters, result, found):
     """The function, whether it asks something, what is said of the result, what of each buffer."""
     asks = "yes" if found["requires"] else "no"
-    ensures = found["ensures"][0] if found["ensures"] else ""
-    bound = re.match(r"λ (\w+)\.", ensures)
-    fact = ensures[bound.end():].strip() if bound else ensures
-    of_result = said(fact, bound.group(1)) if result and bound else "-" if result else ""
+    facts = []
+    for ensures in found["ensures"]:
+        bound = re.match(r"λ (\w+)\.", ensures)
+        facts.append((bound.group(1) if bound else None, ensures[bound.end():].strip() if bound else ensures))
+    of_result = most([said(fact, name) for name, fact in facts if name]) if result else ""
     buffers = re.findall(r"(\w+): &mut", parameters)
-    of_buffers = "; ".join(f"{buffer}: {said(fact, f'now ({buffer} .exit)')}" for buffer in buffers)
+    of_buffers = "; ".join(f"{buffer}: {most([said(fact, f'now ({buffer} .exit)') for _, fact in facts])}" for buffer in buffers)
     return f"{path}::{name}", asks, of_result, of_buffers
 
 
