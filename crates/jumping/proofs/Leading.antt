@@ -3,7 +3,7 @@ use mathlib.Core.Path.{_≡_, sym, subst}
 use Prim.Native.Nat.{ℕ}
 use Rattle.search.specs.Search.{Problem, State, Outcome, jump, start}
 use Rattle.search.proofs.Loop.{Ends, ends-end, ends-go, ends-solve}
-use Rattle.jumping.specs.declared.Found.{Found}
+use Rattle.outcome.specs.declared.Halt.{Halt}
 use Rattle.jumping.specs.Jumping.{Led, here, on, endOf, Searched, Solves}
 
 module _ (P : Problem) (lim : ℕ) where
@@ -11,7 +11,7 @@ module _ (P : Problem) (lim : ℕ) where
   led-ends c d o (here e) x = subst (λ (y : State). Ends P jump lim y o) (sym e) x
   led-ends c x o (on {d} {e} l t) y = led-ends c d o l (ends-go P jump lim d e o t y)
 
-  pub solves-by : (c : State) (r : Found) → c ≡ start P → Searched P lim c r → Solves P lim r
-  solves-by c r e s =
-      let o = endOf (P .atoms) r (s .skipped) in
+  pub solves-by : (c : State) (h : Halt) → c ≡ start P → Searched P lim c h → Solves P lim (h .found)
+  solves-by c h e s =
+      let o = endOf (P .atoms) (h .found) (s .skipped) in
       (s .skipped, ends-solve P jump lim o (subst (λ (y : State). Ends P jump lim y o) e (led-ends c (s .last) o (s .led) (ends-end P jump lim (s .last) o (s .ends)))))

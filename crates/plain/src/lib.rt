@@ -80,7 +80,7 @@ fn choose(t: &[i32], tb: Table, lists: &Lists, limit: u32, values: [u8; 256], ch
     requires { ⌜ Laid (now t) tb × Listed (now t) tb (now lists) × (choices ≤ limit) ⌝ }
     ensures { λ r. ⌜ Chosen (programOf (now (t .entry)) tb) (tb .atoms) limit values choices r ⌝ }
 {
-    let lowest = jumping::lowest_undefined(&values, tb.atoms);
+    let lowest = turns::lowest_undefined(&values, tb.atoms);
     let Choice::Atom(p) = lowest else {
         return tested(t, tb, values, choices);
     };

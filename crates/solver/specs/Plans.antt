@@ -21,7 +21,7 @@ use Rattle.results.specs.declared.Solved.the-variants as solved
 use Rattle.rounds.specs.declared.Why.{Why}
 use Rattle.rounds.specs.Rounds.{noWhys}
 use Rattle.search.specs.Search.{Result}
-use Rattle.jumping.specs.declared.Found.{Found}
+use Rattle.outcome.specs.declared.Found.{Found}
 use Rattle.jumping.specs.Jumping.{resultOf}
 use Rattle.solver.specs.Solving.{solvedBy, planAfter}
 use Rattle.solver.specs.Approving.{planAtoms}

@@ -7,8 +7,8 @@ ghost use Rattle.interpretation.specs.State.{trueAtoms};
 ghost use Rattle.interpretation.specs.View.{valued};
 ghost use Rattle.solver.specs.Solving.{bitOf, planWith};
 ghost use Rattle.solver.specs.Plans.{reportOf, bufferOf, badFrom, Offers};
-use jumping::Ending;
-use jumping::Found;
+use outcome::Ending;
+use outcome::Found;
 use results::Solved;
 
 // The plan's byte of an atom, from its value's byte.

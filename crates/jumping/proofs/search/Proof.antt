@@ -37,12 +37,13 @@ search-by-requires c κs =
 
 returns : tie.Need-returns
 returns c =
-    let n = c .before .before in
+    let r = c .before .search-by in
+    let n = c .before .before .before in
     let i = n .before in
     let a = i .before .before .before .before .args in
     let P = base (programOf (a .t .now) (a .tb)) (a .tb .atoms) in
     let f : record { interpretation = view (i .start .result); reason = rows (n .no-rows .result); choices = 0; skips = 0; passes = 0; skipped = [] } ≡ start P = λ j. record { interpretation = i .start .ensures j; reason = n .no-rows .ensures j; choices = 0; skips = 0; passes = 0; skipped = [] } in
-    solves-by P (a .limit) _ (c .search-by .result) f (c .search-by .ensures [])
+    solves-by P (a .limit) _ (r .result) f (r .ensures [])
 
 pub search-spec : {M : Type 1} → statement M
 search-spec = tie.close (tie.spec slice-aggregate-fill fill-requires start-requires no-rows-requires search-by-requires returns)

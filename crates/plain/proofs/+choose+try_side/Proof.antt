@@ -22,7 +22,7 @@ use Rattle.plain.proofs.try_side.Reads as try-side
 use Rattle.plain.proofs.try_side.Kinds as try-side-kinds
 use Rattle.plain.proofs.+choose+try_side.Lts-try_side as try-side-lts
 use Rattle.plain.proofs.ended.Reads as ended-reads
-use Rattle.jumping.proofs.lowest_undefined.Reads as lowest-undefined-reads
+use Rattle.turns.proofs.lowest_undefined.Reads as lowest-undefined-reads
 use Rattle.passes.proofs.propagate.Reads as propagate-reads
 use Rattle.plain.proofs.tested.Reads as tested-reads
 use Rattle.plain.proofs.with.Reads as with-reads

@@ -15,8 +15,8 @@ use Rattle.interpretation.specs.View.{view, choices}
 use Rattle.search.specs.Search.{Branch, Next, State, go, jump, branches, goBack, spend, turn}
 use Rattle.search.proofs.Fuel.{meas, turn-less}
 use Rattle.search.proofs.Parts.{target-le}
-use Rattle.jumping.specs.declared.Back.{Back}
-use Rattle.jumping.specs.declared.Back.the-variants.{End, Level}
+use Rattle.turns.specs.declared.Back.{Back}
+use Rattle.turns.specs.declared.Back.the-variants.{End, Level}
 use Rattle.jumping.specs.Jumping.{Ordered, on}
 use Rattle.jumping.proofs.Ordered.{choice-in, ordered-jump}
 use Rattle.jumping.proofs.Turns.{conflicts, led, goes-back, back-end, back-level}

@@ -6,7 +6,7 @@ use Prim.Native.Nat.{ℕ}
 use Rattle.meaning.specs.Aggregates.{Atoms}
 use Rattle.interpretation.specs.State.{trueAtoms}
 use Rattle.interpretation.specs.View.{cells}
-use Rattle.jumping.specs.declared.Ending.{Ending}
+use Rattle.outcome.specs.declared.Ending.{Ending}
 use Rattle.jumping.specs.Jumping.{resultOf}
 use Rattle.jumping.proofs.Plans.{plan-alone}
 use Rattle.solver.specs.Solving.{planWith, planAfter, solvedBy}

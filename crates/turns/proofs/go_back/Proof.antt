@@ -1,4 +1,4 @@
--- `jumping::go_back` meets its contract: by whether the reason is empty. Assumes nothing.
+-- `turns::go_back` meets its contract: by whether the reason is empty. Assumes nothing.
 use borrow.Author.Needs.{needs}
 use mathlib.Core.Path.{_≡_, refl, sym, ap, _∙_}
 use Prim.Native.Nat.{ℕ, zero, suc, _-_, _≤_}
@@ -8,11 +8,11 @@ use Rattle.interpretation.specs.View.{choices}
 use Rattle.interpretation.proofs.Laws.{choices-at}
 use Rattle.search.specs.Search.{jump}
 use Rattle.search.proofs.Parts.{target-le}
-use Rattle.jumping.specs.Jumping.{backTo}
-use Rattle.jumping.specs.declared.Back.{Back}
-use Rattle.jumping.specs.declared.Back.the-variants.{Level}
-use Rattle.jumping.proofs.go_back.Statement.{statement}
-use Rattle.jumping.proofs.go_back.Tie as tie
+use Rattle.turns.specs.Turns.{backTo}
+use Rattle.turns.specs.declared.Back.{Back}
+use Rattle.turns.specs.declared.Back.the-variants.{Level}
+use Rattle.turns.proofs.go_back.Statement.{statement}
+use Rattle.turns.proofs.go_back.Tie as tie
 
 highest-requires : tie.Need-highest-requires
 highest-requires c κs = search needs

@@ -1,13 +1,13 @@
--- `jumping::blame` meets its contract. Assumes nothing.
+-- `turns::blame` meets its contract. Assumes nothing.
 use borrow.Author.Needs.{needs}
 use mathlib.Core.Path.{_≡_, refl, sym, ap, _∙_}
 use Rattle.outcome.specs.declared.Outcome.{Outcome}
 use Rattle.levels.specs.View.{row}
-use Rattle.jumping.specs.Jumping.{blamed}
-use Rattle.jumping.proofs.blame.Statement.{statement}
-use Rattle.jumping.proofs.blame.Tie as tie
-use Rattle.jumping.proofs.blame.Reads as reads
-use Rattle.jumping.proofs.blame.Lts as lts
+use Rattle.turns.specs.Turns.{blamed}
+use Rattle.turns.proofs.blame.Statement.{statement}
+use Rattle.turns.proofs.blame.Tie as tie
+use Rattle.turns.proofs.blame.Reads as reads
+use Rattle.turns.proofs.blame.Lts as lts
 use Rattle.levels.proofs.upto.Reads as upto-reads
 
 enum-told : tie.Need-enum-told

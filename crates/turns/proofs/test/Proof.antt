@@ -1,9 +1,9 @@
--- `jumping::test` meets its contract. Assumes nothing.
+-- `turns::test` meets its contract. Assumes nothing.
 use borrow.Author.Needs.{needs}
 use mathlib.Core.Path.{_≡_, sym, ap, _∙_}
 use Rattle.search.specs.Base.{verdictOf}
-use Rattle.jumping.proofs.test.Statement.{statement}
-use Rattle.jumping.proofs.test.Tie as tie
+use Rattle.turns.proofs.test.Statement.{statement}
+use Rattle.turns.proofs.test.Tie as tie
 
 founded-requires : tie.Need-founded-requires
 founded-requires c κs = search needs

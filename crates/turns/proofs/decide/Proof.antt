@@ -1,4 +1,4 @@
--- `jumping::decide` meets its contract: each way out is one clause of `turnOf`. Assumes nothing.
+-- `turns::decide` meets its contract: each way out is one clause of `turnOf`. Assumes nothing.
 use borrow.Author.Needs.{needs}
 use borrow.Author.Tests.{lt-ltb, le-ltb}
 use mathlib.Core.Path.{_≡_, sym, ap, _∙_}
@@ -15,10 +15,10 @@ use Rattle.outcome.specs.declared.Outcome.the-variants as O
 use Rattle.search.specs.Search.{Tested}
 use Rattle.search.specs.Base.{verdictOf}
 use Rattle.search.proofs.Parts.{lowest-none}
-use Rattle.jumping.specs.Jumping.{testedOf, turnOf}
-use Rattle.jumping.specs.declared.Turn.{Turn}
-use Rattle.jumping.proofs.decide.Statement.{statement}
-use Rattle.jumping.proofs.decide.Tie as tie
+use Rattle.turns.specs.Turns.{testedOf, turnOf}
+use Rattle.turns.specs.declared.Turn.{Turn}
+use Rattle.turns.proofs.decide.Statement.{statement}
+use Rattle.turns.proofs.decide.Tie as tie
 
 -- what the definition asks at the start
 abbrev left : tie.Start → ℕ

@@ -1,4 +1,4 @@
--- `jumping::lowest_undefined` meets its contract: no atom up to i is undefined. Assumes nothing.
+-- `turns::lowest_undefined` meets its contract: no atom up to i is undefined. Assumes nothing.
 use borrow.Author.Needs.{needs}
 use mathlib.Core.Path.{_≡_, sym, ap, _∙_}
 use mathlib.Core.Option.{none}
@@ -7,8 +7,8 @@ use native.Mathlib.Omega.{arith}
 use Rattle.interpretation.specs.State.{lowest}
 use Rattle.interpretation.specs.View.{valued}
 use Rattle.interpretation.proofs.Laws.{lowest-zero, lowest-here, lowest-later}
-use Rattle.jumping.proofs.lowest_undefined.Statement.{statement}
-use Rattle.jumping.proofs.lowest_undefined.Tie as tie
+use Rattle.turns.proofs.lowest_undefined.Statement.{statement}
+use Rattle.turns.proofs.lowest_undefined.Tie as tie
 
 abbrev Inv-loop : tie.InvT-loop
 Inv-loop values n i₀ i = (i ≤ n) × (lowest (valued values) i ≡ none)

@@ -1,0 +1,135 @@
+// What a turn of the search asks after its propagation (01, "Reasons and jumps"): which atom is next, what the final test says, what is to be done, and
+// where a conflict leads. All of it is asked through lent values; nothing here changes the state. Meaning: `specs/Turns.antt`.
+ghost use mathlib.Core.Path.{_≡_};
+ghost use Prim.Native.Nat.{_-_, _≤_, max};
+ghost use lib.Dec.{ltb};
+ghost use Rattle.meaning.specs.Foundedness.{founded};
+ghost use Rattle.levels.specs.View.{row};
+ghost use Rattle.interpretation.specs.State.{lowest, trueAtoms, AllDefined};
+ghost use Rattle.interpretation.specs.View.{choices, found, valued};
+ghost use Rattle.layout.specs.Layout.{Laid, programOf};
+ghost use Rattle.search.specs.Base.{verdictOf};
+ghost use Rattle.turns.specs.Turns.{testedOf, turnOf, blamed, ChosenIn, backOf};
+use interpretation::Choice;
+use layout::Table;
+use outcome::Outcome;
+
+// What the final test says of a total interpretation, with the choices that it spent; exhausted: the limit stopped it.
+pub enum Tested {
+    Passed(u32),
+    Failed(u32),
+    Exhausted,
+}
+
+// What a turn does after propagation; where the final test was made, with the choices that it spent.
+pub enum Turn {
+    Answer(u32),
+    Limit(u32),
+    Choose(usize),
+    Conflict(u32),
+}
+
+// Where a conflict leads, with the skips that it adds: to the end, or back to a level, whose choice atom becomes false.
+pub enum Back {
+    End(u32),
+    Level(usize, usize, u32),
+}
+
+// The greater of two numbers.
+pub fn greater(a: u32, b: u32) -> u32
+    ensures { λ r. ⌜ r ≡ max a b ⌝ }
+{
+    if a < b { b } else { a }
+}
+
+// The lowest undefined atom of 1 to n.
+pub fn lowest_undefined(values: &[u8; 256], n: usize) -> Choice
+    requires { ⌜ n ≤ 256 ⌝ }
+    ensures { λ r. ⌜ found r ≡ lowest (valued (now (values .entry))) n ⌝ }
+{
+    let mut i: usize = 0;
+    while i < n {
+        let value = values[i];
+        if value == 0 {
+            let p = i + 1;
+            return Choice::Atom(p);
+        }
+        i += 1;
+    }
+    Choice::Nothing
+}
+
+// The final test: foundedness, which spends no choices.
+pub fn test(t: &[i32], tb: Table, values: &[u8; 256]) -> Tested
+    requires { ⌜ Laid (now t) tb × AllDefined (tb .atoms) (valued (now values)) ⌝ }
+    ensures { λ r. ⌜ testedOf r ≡ verdictOf (founded (programOf (now (t .entry)) tb) (tb .atoms) (trueAtoms (tb .atoms) (valued (now (values .entry))))) ⌝ }
+{
+    if foundation::founded(t, tb, values) {
+        return Tested::Passed(0);
+    }
+    Tested::Failed(0)
+}
+
+// What is to be done after a propagation. The limit is tested only where a choice would be opened.
+pub fn decide(
+    t: &[i32],
+    tb: Table,
+    out: Outcome,
+    values: &[u8; 256],
+    choices: u32,
+    limit: u32,
+) -> Turn
+    requires { ⌜ Laid (now t) tb × (choices ≤ limit) ⌝ }
+    ensures { λ r. ⌜ r ≡ turnOf (limit - choices) out (lowest (valued (now (values .entry))) (tb .atoms)) (verdictOf (founded (programOf (now (t .entry)) tb) (tb .atoms) (trueAtoms (tb .atoms) (valued (now (values .entry)))))) (ltb choices limit) ⌝ }
+{
+    match out {
+        Outcome::Conflict => Turn::Conflict(0),
+        Outcome::Settled => {
+            let n = tb.atoms;
+            let c = lowest_undefined(values, n);
+            match c {
+                Choice::Atom(p) => {
+                    if choices < limit {
+                        return Turn::Choose(p);
+                    }
+                    Turn::Limit(0)
+                }
+                Choice::Nothing => {
+                    let left = limit - choices;
+                    let tested = test(t, tb, values);
+                    match tested {
+                        Tested::Passed(spent) => Turn::Answer(spent),
+                        Tested::Failed(spent) => Turn::Conflict(spent),
+                        Tested::Exhausted => Turn::Limit(left),
+                    }
+                }
+            }
+        }
+    }
+}
+
+// The reason of a conflict at level k: propagation's, or all present levels where the final test failed.
+pub fn blame(out: Outcome, why: [u64; 4], k: usize) -> [u64; 4]
+    requires { ⌜ k ≤ 256 ⌝ }
+    ensures { λ r. ⌜ row r ≡ blamed out (row why) k ⌝ }
+{
+    match out {
+        Outcome::Conflict => why,
+        Outcome::Settled => levels::upto(k),
+    }
+}
+
+// Where a conflict with the reason `why` leads, k levels being present: to the highest level in it, or to the end.
+pub fn go_back(chosen: &[u16; 256], k: usize, why: [u64; 4]) -> Back
+    requires { ⌜ (k ≤ 256) × ChosenIn (choices (now chosen) k) k ⌝ }
+    ensures { λ r. ⌜ r ≡ backOf (choices (now (chosen .entry)) k) (row why) k ⌝ }
+{
+    let m = levels::highest(why, k);
+    if m == 0 {
+        return Back::End(k as u32);
+    }
+    let i = m - 1;
+    let atom = chosen[i] as usize;
+    let skips = (k - m) as u32;
+    Back::Level(m, atom, skips)
+}
