@@ -42,9 +42,8 @@ pub fn search_by(
     let end = lists[1] as usize;
     'turns: loop {
         let mut why = levels::empty();
-        let mut made: u32 = 0;
+        let mut made: u32 = 1; // the pass at hand counts, also if a conflict ends it
         let out = 'passes: loop {
-            made += 1;
             let mut changed = false;
             let mut r = first;
             'rules: while r < end {
@@ -119,6 +118,7 @@ pub fn search_by(
             if !changed {
                 break 'passes Outcome::Settled;
             }
+            made += 1;
         };
         most = turns::greater(most, made);
         let turn = turns::decide(t, tb, out, &it.values, choices, limit);

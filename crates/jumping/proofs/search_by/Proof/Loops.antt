@@ -61,9 +61,9 @@ abbrev pub μ-atoms : tie.MeasureT-atoms
 abbrev pub Inv-passes : tie.InvT-passes
 Inv-passes t tb lists limit it₀ reasons₀ choices skips most n first end why₀ made₀ it reasons why made =
     (length reasons ≡ 256) × Kept (view it₀) (view it)
-    × ((f : ℕ) × (b : Bool) × (number (tb .atoms) (missing (cells (it .values) (it .records))) < f) × (made + f ≡ suc (tb .atoms))
+    × ((f : ℕ) × (b : Bool) × (number (tb .atoms) (missing (cells (it .values) (it .records))) < f) × (made + f ≡ suc (suc (tb .atoms)))
     × (passes (programOf t tb) (tb .atoms) f (work it reasons b) ≡ passes (programOf t tb) (tb .atoms) (suc (tb .atoms)) (work it₀ reasons₀ false))
-    × (made + passesMade (programOf t tb) (tb .atoms) f (work it reasons b) ≡ passesMade (programOf t tb) (tb .atoms) (suc (tb .atoms)) (work it₀ reasons₀ false)))
+    × (made + passesMade (programOf t tb) (tb .atoms) f (work it reasons b) ≡ suc (passesMade (programOf t tb) (tb .atoms) (suc (tb .atoms)) (work it₀ reasons₀ false))))
 
 abbrev pub μ-passes : tie.MeasureT-passes
 μ-passes t tb lists limit it₀ reasons₀ choices skips most n first end why₀ made₀ it reasons why made = number (tb .atoms) (missing (cells (it .values) (it .records)))

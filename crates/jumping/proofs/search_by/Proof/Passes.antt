@@ -38,12 +38,6 @@ passes-holds c =
     let u = number-top n (missing (cells (t .it .values) (t .it .records))) in
     (t .inv .3, (refl, refl), (suc n, false, omega arith, omega arith, refl, omega arith))
 
--- the passes to come are among N + 1
-pub add-made : Of tie.Need-add-made
-add-made c =
-    let i = c .passes .inv .2 in
-    omega (arith, i .2, i .3, startOf (c .before .before) .pre .0 .fewAtoms)
-
 pub rules-holds : Of tie.Need-rules-holds
 rules-holds c =
     let s = startOf (c .before .before) in
@@ -64,7 +58,7 @@ record Passed (b : Of tie.At-rules) (x : Work) : Type 0 where
   goes : let n = start b .args .tb .atoms in let t = turnAt b .turns in
       goOn (program b) n (passAt b .passes .inv .2 .0 - 1) x ≡ passes (program b) n (suc n) (work (t .it) (t .reasons) false)
   counts : let n = start b .args .tb .atoms in let t = turnAt b .turns in
-      passAt b .passes .made + suc (further (x .verdict) (x .changed) (passesMade (program b) n (passAt b .passes .inv .2 .0 - 1) x)) ≡ passesMade (program b) n (suc n) (work (t .it) (t .reasons) false)
+      passAt b .passes .made + further (x .verdict) (x .changed) (passesMade (program b) n (passAt b .passes .inv .2 .0 - 1) x) ≡ passesMade (program b) n (suc n) (work (t .it) (t .reasons) false)
 
 -- what the rules came to, y, and then the atoms, x
 rest : (b : Of tie.At-rules) (y x : Work) → let a = start b .args in
@@ -75,11 +69,11 @@ rest b y x e d =
     let i = passAt b .passes .inv .2 in
     let h = i .2 in
     let z : pass P n (began b) ≡ x = ap (atomPass P n 1) (sym (b .rules .inv .3) ∙ e) ∙ d in
-    let m = passAt b .passes .made in
+    let e = made-on P n (i .0) (began b) x (omega (arith, h)) z in
     record {
       same = z;
       goes = sym (passes-on P n (i .0) (began b) x (omega (arith, h)) z) ∙ i .4;
-      counts = ap (λ (k : ℕ). m + k) (sym (made-on P n (i .0) (began b) x (omega (arith, h)) z)) ∙ i .5;
+      counts = omega (arith, e, i .5);
     }
 
 -- at the end of a pass
@@ -115,25 +109,29 @@ stays b = kept-then (view (turnAt b .turns .it)) (view (passAt b .passes .it)) (
 stays-on : (d : Of tie.At-atoms) → Kept (view (turnAt (rulesOf d) .turns .it)) (view (d .atoms .it))
 stays-on d = let b = rulesOf d in kept-then (view (turnAt b .turns .it)) (view (b .rules .it)) (view (d .atoms .it)) (stays b) (d .atoms .inv .3)
 
+-- a pass more, so there are not more than N + 1
+pub add-made : Of tie.Need-add-made
+add-made c =
+    let b = rulesOf (c .before .before) in
+    let i = passAt b .passes .inv .2 in
+    omega (arith, i .2, i .3, start b .pre .0 .fewAtoms)
+
 pub passes-again : Of tie.Need-passes-again
 passes-again c =
     let d = c .before .before in
     let b = rulesOf d in
     let i = passAt b .passes .inv .2 in
-    let n = start b .args .tb .atoms in
-    let m = passAt b .passes .made in
-    let x = work (d .atoms .it) (d .atoms .reasons) true in
     let h = i .2 in
     let l = i .3 in
     let z = ended (c .before) true (not-false _ (c .if1 .left)) in
     let k = falls c in
-    let e : (m + 1) + passesMade (program b) n (i .0 - 1) x ≡ m + suc (passesMade (program b) n (i .0 - 1) x) = omega arith in
-    (d .atoms .inv .2, stays-on d, (i .0 - 1, true, omega (arith, h, k), omega (arith, h, l), z .goes, e ∙ z .counts))
+    let e = z .counts in
+    (d .atoms .inv .2, stays-on d, (i .0 - 1, true, omega (arith, h, k), omega (arith, h, l), z .goes, omega (arith, e)))
 
 -- ---- the three ways out: a rule in conflict, an atom in conflict, a pass that changed nothing
 
 abbrev Result : Of tie.At-rules → Interpretation → List (List ℕ) → List ℕ → Outcome → Type 0
-Result b it reasons why out = let a = start b .args in let t = turnAt b .turns in Handed (a .t .now) (a .tb) (t .it) (t .reasons) (passAt b .passes .made + 1) it reasons why out
+Result b it reasons why out = let a = start b .args in let t = turnAt b .turns in Handed (a .t .now) (a .tb) (t .it) (t .reasons) (passAt b .passes .made) it reasons why out
 
 rule-conflict : (c : Of tie.After-reason) → let b = c .before .before .before .before .before .before .before .before .before .before .before in Result b (b .rules .it) (b .rules .reasons) (c .reason .result) Conflict
 rule-conflict c =
@@ -154,7 +152,7 @@ rule-conflict c =
     rules-on t l (b .rules .r) end w (d .before .before .before .before .rules-test .taken) (start b .pre .1 .all .fits) ∙ ap (rulePass after) s ∙ rules-conflict after z (row (c .reason .result)) refl in
     let y = rest b z z e (atoms-conflict (program b) (a .tb .atoms) 1 z (row (c .reason .result)) refl) in
     let first = turnAt b .turns in
-    handed t (a .tb) (first .it) (first .reasons) (passAt b .passes .made + 1) (b .rules .it) (b .rules .reasons) (c .reason .result) Conflict (b .rules .changed) (stays b) (y .goes) (y .counts)
+    handed t (a .tb) (first .it) (first .reasons) (passAt b .passes .made) (b .rules .it) (b .rules .reasons) (c .reason .result) Conflict (b .rules .changed) (stays b) (y .goes) (omega (arith, y .counts))
 
 atom-conflict : (c : Of tie.After-whole-reason) → let g = c .before .before .before .before .before .before .before .before .before .before in Result (rulesOf g) (g .atoms .it) (g .atoms .reasons) (c .whole-reason .result) Conflict
 atom-conflict c =
@@ -177,7 +175,7 @@ atom-conflict c =
     sym (g .atoms .inv .4) ∙ atoms-on P n p w (d .before .before .before .atoms-test .taken) ∙ ap (atomPass P (suc n - (p + 1)) (p + 1)) s ∙ atoms-conflict P (suc n - (p + 1)) (p + 1) z C refl in
     let v = rest b y z (rules-none t (a .lists .now) (b .rules .r) (getD (a .lists .now) 1 0) y (g .before .rules-test .left)) e in
     let first = turnAt b .turns in
-    handed t (a .tb) (first .it) (first .reasons) (passAt b .passes .made + 1) (g .atoms .it) (g .atoms .reasons) (c .whole-reason .result) Conflict (g .atoms .changed) (stays-on g) (v .goes) (v .counts)
+    handed t (a .tb) (first .it) (first .reasons) (passAt b .passes .made) (g .atoms .it) (g .atoms .reasons) (c .whole-reason .result) Conflict (g .atoms .changed) (stays-on g) (v .goes) (omega (arith, v .counts))
 
 at-rest : (c : Of tie.Then1) → let g = c .before .before in Result (rulesOf g) (g .atoms .it) (g .atoms .reasons) (g .atoms .why) Settled
 at-rest c =
@@ -186,7 +184,7 @@ at-rest c =
     let a = start b .args in
     let v = ended (c .before) false (not-true _ (c .if1 .taken)) in
     let first = turnAt b .turns in
-    handed (a .t .now) (a .tb) (first .it) (first .reasons) (passAt b .passes .made + 1) (g .atoms .it) (g .atoms .reasons) (g .atoms .why) Settled false (stays-on g) (v .goes) (v .counts)
+    handed (a .t .now) (a .tb) (first .it) (first .reasons) (passAt b .passes .made) (g .atoms .it) (g .atoms .reasons) (g .atoms .why) Settled false (stays-on g) (v .goes) (omega (arith, v .counts))
 
 pub propagates : (c : Of tie.Left-rules) → Result (c .before) (c .rules-test .it) (c .rules-test .reasons) (c .rules-test .why) (c .rules-test .out)
 propagates c =
