@@ -42,6 +42,11 @@ enum {
     SAUCEPEBBLY_NO = 1   /* it is not */
 };
 
+/* What saucepebbly_read_aspif returns; or SAUCEPEBBLY_REFUSED. */
+enum {
+    SAUCEPEBBLY_WROTE = 0 /* the words are written; report: how many, 0 */
+};
+
 /* The number of a refusal: report[0] where an entry says SAUCEPEBBLY_REFUSED; report[1] is its place. */
 enum {
     SAUCEPEBBLY_TOO_MANY_WORDS = 1,   /* more than 16,384 words; place 0 */
@@ -54,7 +59,10 @@ enum {
     SAUCEPEBBLY_HEAD_CYCLE = 8,       /* head cycle; lowest such rule, from 1 */
     SAUCEPEBBLY_AGGREGATE_CYCLE = 9,  /* aggregate cycle; lowest rule with such an arc, from 1 */
     SAUCEPEBBLY_SHORT_PLAN = 10,      /* the plan buffer is shorter than 256 bytes; place 0 */
-    SAUCEPEBBLY_PLAN_BYTE = 11        /* check only: one of the first N bytes is neither 0 nor 1; its index */
+    SAUCEPEBBLY_PLAN_BYTE = 11,       /* check only: one of the first N bytes is neither 0 nor 1; its index */
+    SAUCEPEBBLY_OUTSIDE_SUBSET = 14,  /* aspif: a line outside the subset, or missing; its number, from 1 */
+    SAUCEPEBBLY_BEYOND_RANGE = 15,    /* aspif: a number, list or table beyond the ranges; the line's number, from 1 */
+    SAUCEPEBBLY_SHORT_WORDS = 25      /* the buffer for words has fewer than 16,384; place 0 */
 };
 
 /* Looks for the first answer set with at most `limit` choices. On an answer the bytes of the table's atoms are
@@ -78,6 +86,12 @@ uint32_t saucepebbly_approve(const int32_t *words, size_t words_len, const uint8
  * meets its limit the result and the plan, are those of saucepebbly_solve; the report's skips are 0. */
 uint32_t saucepebbly_plain(const int32_t *words, size_t words_len, uint32_t limit, uint8_t *plan, size_t plan_len,
                            uint32_t *report, size_t report_len);
+
+/* Reads a text in the ASP intermediate format, which begins with the line `asp 1 0 0`: rule statements with a disjunctive head and a normal
+ * body or a weight body of positive literals, comments, and the closing 0. The words go to the front of the buffer, which has at least
+ * 16,384; the rest of it keeps its content, and on a refusal all of it does. A line's number above 4,294,967,295 is reported as that. */
+uint32_t saucepebbly_read_aspif(const uint8_t *text, size_t text_len, int32_t *words, size_t words_len,
+                                uint32_t *report, size_t report_len);
 
 #ifdef __cplusplus
 }

@@ -4,3 +4,4 @@ pub mod Numbers
 pub mod Unique
 pub mod Places
 pub mod PlainEntry
+pub mod ReadingEntry

@@ -2,3 +2,4 @@
 pub mod Whys
 pub mod Dock
 pub mod Plain
+pub mod Reading

@@ -7,6 +7,7 @@ use results::Checked;
 use results::Solved;
 
 mod plainly;
+mod reading;
 mod whys;
 
 // The kind of a result.
