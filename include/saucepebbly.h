@@ -30,10 +30,10 @@ extern "C" {
 
 /* What saucepebbly_solve returns. */
 enum {
-    SAUCEPEBBLY_ANSWER = 0, /* the plan is written; report: choices, skips */
-    SAUCEPEBBLY_NONE = 1,   /* there is no answer set; report: choices, skips */
-    SAUCEPEBBLY_LIMIT = 2,  /* one more choice would exceed the limit; report: choices, skips */
-    SAUCEPEBBLY_REFUSED = 3 /* the input is refused; report: number, place */
+    SAUCEPEBBLY_ANSWER = 0, /* the plan is written; report: choices, skips, passes */
+    SAUCEPEBBLY_NONE = 1,   /* there is no answer set; report: choices, skips, passes */
+    SAUCEPEBBLY_LIMIT = 2,  /* one more choice would exceed the limit; report: choices, skips, passes */
+    SAUCEPEBBLY_REFUSED = 3 /* the input is refused; report: number, place, 0 */
 };
 
 /* What saucepebbly_approve returns; or SAUCEPEBBLY_REFUSED. */
@@ -67,7 +67,9 @@ enum {
 
 /* Looks for the first answer set with at most `limit` choices. On an answer the bytes of the table's atoms are
  * written to the plan; every other byte, and on any other result the whole plan, keeps its content. The report
- * needs two places; if it has fewer, nothing is written to it.
+ * needs two places; if it has fewer, nothing is written to it. If it has a third place, that gets the greatest number
+ * of passes over rules and atoms that any one propagation took; it is at most the number of atoms plus 1, by which a
+ * watchdog can be sized.
  *
  * `whys` needs 512 places: atom i's round at 2 * (i - 1), and its rule after it. A true atom of an answer has a
  * round of 1 to the number of atoms, and the number of a rule, from 1, whose body is true, whose only true head

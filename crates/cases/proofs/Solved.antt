@@ -32,8 +32,9 @@ use Rattle.search.specs.Shown.{trueList, shownResult, shown}
 use Rattle.judging.specs.declared.Buffer.the-variants.{Plan}
 use Rattle.judging.specs.Refusals.{Accepted, Refused, table}
 use Rattle.judging.proofs.Judged.{plan-good, cycle-refuses, none-accepts}
-use Rattle.solver.specs.Solving.{bitOf, bytesFrom, planWith, planAfter, solvedBy, Solving}
-use Rattle.solver.specs.Approving.{planAtoms}
+use Rattle.promises.specs.Plans.{bitOf, bytesFrom, planWith, planAtoms}
+use Rattle.promises.specs.Promises.{planAfter, solvedBy, reported}
+use Rattle.solver.specs.Solving.{Solving}
 use Rattle.cases.specs.Cases.{Case, asReported, cases, shownRefusal, shownCycle, shownContents, shownFor, shownSolved, atomsIn}
 use Rattle.cases.proofs.Table.{case-as-reported}
 
@@ -69,14 +70,14 @@ true-lists zero X Z h = refl
 true-lists (suc k) X Z h =
     ap (λ (l : List ℕ). l ++ cond (X (suc k)) (suc k ∷ []) []) (true-lists k X Z (λ i l. h i (omega arith))) ∙ ap (λ (b : Bool). trueList k Z ++ cond b (suc k ∷ []) []) (h k (omega arith))
 
-shown-by : (n : ℕ) (x : Result) (k s : ℕ) (old : List ℕ) → shownSolved n (solvedBy x k s) (planAfter n x old) ≡ shownResult n k s x
-shown-by n (answer X) k s old = ap (λ (l : List ℕ). 0 ∷ k ∷ s ∷ l) (true-lists n (planAtoms n (planWith n X old)) X (λ i h. plan-back X n i old h))
-shown-by n noAnswer k s old = refl
-shown-by n limit k s old = refl
+shown-by : (n : ℕ) (x : Result) (k s p : ℕ) (old : List ℕ) → shownSolved n (solvedBy x (record { choices = k; skips = s; passes = p })) (planAfter n x old) ≡ shownResult n k s x
+shown-by n (answer X) k s p old = ap (λ (l : List ℕ). 0 ∷ k ∷ s ∷ l) (true-lists n (planAtoms n (planWith n X old)) X (λ i h. plan-back X n i old h))
+shown-by n noAnswer k s p old = refl
+shown-by n limit k s p old = refl
 
 -- ---- what meets the promise shows what the definitions report
 
-module _ (t : List ℤ) (lim : ℕ) (old new : List ℕ) (r : Solved) (short : length t ≤ 16384) (wide : 256 ≤ length old) (S : Solving t lim old new r) where
+module _ (t : List ℤ) (lim : ℕ) (old new : List ℕ) (r : Solved) (short : length t ≤ 16384) (wide : 256 ≤ length old) (S : Solving t (record { limit = lim }) old new r) where
   refusal-shown : (n : ℕ) (f : Refusal) → Refused t (Plan (length old)) (numberOf f) (placeOf f) → shownSolved n r new ≡ shownRefusal f
   refusal-shown n f h = ap (λ (x : Solved). shownSolved n x new) (report-determines r (solved.Refused f) (S .refused (numberOf f) (placeOf f) .1 h))
 
@@ -85,8 +86,8 @@ module _ (t : List ℤ) (lim : ℕ) (old new : List ℕ) (r : Solved) (short : l
   by-cycle c e cycle.Nothing i =
       let x = S .searching c (none-accepts t (Plan (length old)) short (plan-good (length old) wide) c e i) in
       let o = x .0 in
-      ap (λ (y : Solved). shownSolved (c .atoms) y new) (x .2 .result) ∙ ap (shownSolved (c .atoms) (solvedBy (o .result) (o .choices) (o .skips))) (x .2 .plan)
-      ∙ shown-by (c .atoms) (o .result) (o .choices) (o .skips) old ∙ sym (ap (shown (c .atoms)) (x .2 .jumping))
+      ap (λ (y : Solved). shownSolved (c .atoms) y new) (x .1 .result) ∙ ap (shownSolved (c .atoms) (reported o)) (x .1 .plan)
+      ∙ shown-by (c .atoms) (o .result) (o .choices) (o .skips) (o .passes) old ∙ sym (ap (shown (c .atoms)) (x .1 .jumping))
 
   by-contents : (x : grammar.Outcome) → grammar.contentsOf t ≡ x → shownSolved (atomsIn x) r new ≡ shownContents x jump lim
   by-contents (grammar.refusedFor f) e = refusal-shown 0 f (table short (plan-good (length old) wide) f e refl refl)
@@ -95,7 +96,7 @@ module _ (t : List ℤ) (lim : ℕ) (old new : List ℕ) (r : Solved) (short : l
   pub shown-solved : shownSolved (atomsIn (grammar.contentsOf t)) r new ≡ shownFor jump t lim
   shown-solved = by-contents (grammar.contentsOf t) refl
 
-pub case-solved : (c : Case) → c ∈ cases → (old new : List ℕ) (r : Solved) → 256 ≤ length old → Solving (c .words) (c .limit) old new r
+pub case-solved : (c : Case) → c ∈ cases → (old new : List ℕ) (r : Solved) → 256 ≤ length old → Solving (c .words) (record { limit = c .limit }) old new r
     → shownSolved (atomsIn (grammar.contentsOf (c .words))) r new ≡ c .jumps
 unfolding asReported
 case-solved c m old new r wide S =

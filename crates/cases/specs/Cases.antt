@@ -25,7 +25,7 @@ use Rattle.depend.specs.declared.Cycle.the-variants as cycle
 use Rattle.search.specs.Search.{Mode, jump, plain, solve}
 use Rattle.search.specs.Base.{base}
 use Rattle.search.specs.Shown.{trueList, shown}
-use Rattle.solver.specs.Approving.{planAtoms}
+use Rattle.promises.specs.Plans.{planAtoms}
 
 -- ---- what the definitions report
 
@@ -72,9 +72,9 @@ sameAnswers (some s) (some t) = sameLists s t
 -- ---- what a result and a later plan buffer show of a table with n atoms
 
 abbrev pub shownSolved : ℕ → Solved → List ℕ → List ℕ
-shownSolved n (solved.Answer k s) new = 0 ∷ k ∷ s ∷ trueList n (planAtoms n new)
-shownSolved n (solved.Nothing k s) new = 1 ∷ k ∷ s ∷ []
-shownSolved n (solved.Limit k s) new = 2 ∷ k ∷ s ∷ []
+shownSolved n (solved.Answer k) new = 0 ∷ k .choices ∷ k .skips ∷ trueList n (planAtoms n new)
+shownSolved n (solved.Nothing k) new = 1 ∷ k .choices ∷ k .skips ∷ []
+shownSolved n (solved.Limit k) new = 2 ∷ k .choices ∷ k .skips ∷ []
 shownSolved n (solved.Refused f) new = shownRefusal f
 
 -- the number of atoms that the words have; refused words have none

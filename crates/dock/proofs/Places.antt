@@ -14,15 +14,15 @@ use Rattle.results.specs.declared.Checked.the-variants as checked
 use Rattle.judging.specs.declared.Buffer.the-variants.{Plan}
 use Rattle.judging.proofs.Places.{place-small}
 use Rattle.solver.proofs.Places.{check-place-small}
-use Rattle.dock.specs.Dock.{narrow, firstOf, secondOf, reported, checkReport, Solves, Approves}
+use Rattle.dock.specs.Dock.{narrow, firstOf, secondOf, thirdOf, reported, withThird, checkReport, Solves, Approves}
 
 kept : (n : ℕ) → n ≤ 16384 → narrow n ≡ n
 kept n h = omega (arith, h)
 
 pub solves-place : (t : List ℤ) (lim : ℕ) (old new report told whys shown : List ℕ) (k : ℕ) (s : Solves t lim old new report told whys shown k) (f : Refusal) → s .result ≡ solved.Refused f
-    → told ≡ reported (numberOf f) (placeOf f) report
+    → told ≡ withThird 0 (reported (numberOf f) (placeOf f) report)
 solves-place t lim old new report told whys shown k s f e =
-    s .report ∙ ap (λ (r : Solved). reported (firstOf r) (secondOf r) report) e ∙ ap (λ (n : ℕ). reported (numberOf f) n report) (kept (placeOf f) (place-small t (Plan (length old)) (numberOf f) (placeOf f) (s .solving .refused (numberOf f) (placeOf f) .0 (ap reportOf e))))
+    s .report ∙ ap (λ (r : Solved). withThird (thirdOf r) (reported (firstOf r) (secondOf r) report)) e ∙ ap (λ (n : ℕ). withThird 0 (reported (numberOf f) n report)) (kept (placeOf f) (place-small t (Plan (length old)) (numberOf f) (placeOf f) (s .solving .refused (numberOf f) (placeOf f) .0 (ap reportOf e))))
 
 pub approves-place : (t : List ℤ) (plan report told : List ℕ) (k : ℕ) (s : Approves t plan report told k) (f : Refusal) → s .result ≡ checked.Refused f
     → told ≡ reported (numberOf f) (placeOf f) report

@@ -4,7 +4,7 @@ use mathlib.Core.List.{List, [], _∷_}
 use Prim.Native.Nat.{ℕ, _≤_, _<_}
 use native.Mathlib.Omega.{arith}
 use lib.ListN.{length, set}
-use Rattle.dock.specs.Dock.{reported}
+use Rattle.dock.specs.Dock.{reported, withThird}
 
 pub short : (m n : ℕ) (l : List ℕ) → length l < 2 → l ≡ reported m n l
 short m n [] h = refl
@@ -15,3 +15,15 @@ pub stored : (m n : ℕ) (l : List ℕ) → 2 ≤ length l → set (set l 0 m) 1
 stored m n [] h = absurd (omega arith)
 stored m n (a ∷ []) h = absurd (omega arith)
 stored m n (a ∷ b ∷ l) h = refl
+
+pub no-third : (p : ℕ) (l : List ℕ) → length l < 3 → l ≡ withThird p l
+no-third p [] h = refl
+no-third p (a ∷ []) h = refl
+no-third p (a ∷ b ∷ []) h = refl
+no-third p (a ∷ b ∷ c ∷ l) h = absurd (omega arith)
+
+pub third-stored : (p : ℕ) (l : List ℕ) → 3 ≤ length l → set l 2 p ≡ withThird p l
+third-stored p [] h = absurd (omega arith)
+third-stored p (a ∷ []) h = absurd (omega arith)
+third-stored p (a ∷ b ∷ []) h = absurd (omega arith)
+third-stored p (a ∷ b ∷ c ∷ l) h = refl

@@ -8,16 +8,16 @@ use Rattle.results.specs.declared.Checked.{Checked}
 use Rattle.solver.specs.declared.Solution.{Solution}
 use Rattle.solver.proofs.Unique.{solution-unique, approving-unique}
 use Rattle.dock.specs.Whys.{whysWritten}
-use Rattle.dock.specs.Dock.{firstOf, secondOf, reported, checkReport, Solves, Approves}
+use Rattle.dock.specs.Dock.{firstOf, secondOf, thirdOf, reported, withThird, checkReport, Solves, Approves}
 
 module _ (t : List ℤ) (lim : ℕ) (old report whys : List ℕ) where
   pub solves-unique : (new new′ told told′ shown shown′ : List ℕ) (k k′ : ℕ) → Solves t lim old new report told whys shown k → Solves t lim old new′ report told′ whys shown′ k′
       → (k ≡ k′) × (new ≡ new′) × (told ≡ told′) × (shown ≡ shown′)
   solves-unique new new′ told told′ shown shown′ k k′ a b =
-      let u = solution-unique t lim old new new′ (record { solved = a .result; whys = a .records }) (record { solved = b .result; whys = b .records }) (a .solving, a .explaining) (b .solving, b .explaining) in (
+      let u = solution-unique t (record { limit = lim }) old new new′ (record { solved = a .result; whys = a .records }) (record { solved = b .result; whys = b .records }) (a .solving, a .explaining) (b .solving, b .explaining) in (
         a .kind ∙ ap (λ (r : Solution). kindOf (r .solved)) (u .0) ∙ sym (b .kind),
         u .1,
-        a .report ∙ ap (λ (r : Solution). reported (firstOf (r .solved)) (secondOf (r .solved)) report) (u .0) ∙ sym (b .report),
+        a .report ∙ ap (λ (r : Solution). withThird (thirdOf (r .solved)) (reported (firstOf (r .solved)) (secondOf (r .solved)) report)) (u .0) ∙ sym (b .report),
         a .whys ∙ ap (λ (r : Solution). whysWritten (r .whys) whys) (u .0) ∙ sym (b .whys),
       )
 

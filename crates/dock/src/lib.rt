@@ -1,8 +1,9 @@
 // The entries that C and Rust link, as `include/saucepebbly.h` declares them. A slice is a pointer and a length; that these are what they say and
 // that the lent buffers do not overlap is all that a caller owes. Meaning: `specs/Dock.antt`.
 ghost use mathlib.Core.Path.{_≡_};
-ghost use Rattle.dock.specs.Dock.{narrow, firstOf, secondOf, reported, checkReport, Solves, Approves};
+ghost use Rattle.dock.specs.Dock.{narrow, firstOf, secondOf, thirdOf, reported, withThird, checkReport, Solves, Approves};
 ghost use Rattle.results.specs.Results.{kindOf, checkKind};
+use results::Ask;
 use results::Checked;
 use results::Solved;
 
@@ -15,9 +16,9 @@ fn kind(solved: Solved) -> u32
     ensures { λ r. ⌜ r ≡ kindOf solved ⌝ }
 {
     match solved {
-        Solved::Answer(_, _) => 0,
-        Solved::Nothing(_, _) => 1,
-        Solved::Limit(_, _) => 2,
+        Solved::Answer(_) => 0,
+        Solved::Nothing(_) => 1,
+        Solved::Limit(_) => 2,
         Solved::Refused(_) => 3,
     }
 }
@@ -37,9 +38,9 @@ fn first(solved: Solved) -> u32
     ensures { λ r. ⌜ r ≡ firstOf solved ⌝ }
 {
     match solved {
-        Solved::Answer(choices, _) => choices,
-        Solved::Nothing(choices, _) => choices,
-        Solved::Limit(choices, _) => choices,
+        Solved::Answer(counts) => counts.choices,
+        Solved::Nothing(counts) => counts.choices,
+        Solved::Limit(counts) => counts.choices,
         Solved::Refused(f) => results::number(f),
     }
 }
@@ -49,11 +50,33 @@ fn second(solved: Solved) -> u32
     ensures { λ r. ⌜ r ≡ secondOf solved ⌝ }
 {
     match solved {
-        Solved::Answer(_, skips) => skips,
-        Solved::Nothing(_, skips) => skips,
-        Solved::Limit(_, skips) => skips,
+        Solved::Answer(counts) => counts.skips,
+        Solved::Nothing(counts) => counts.skips,
+        Solved::Limit(counts) => counts.skips,
         Solved::Refused(f) => narrowed(results::place(f)),
     }
+}
+
+// The greatest number of passes, or 0 of a refusal.
+fn third(solved: Solved) -> u32
+    ensures { λ r. ⌜ r ≡ thirdOf solved ⌝ }
+{
+    match solved {
+        Solved::Answer(counts) => counts.passes,
+        Solved::Nothing(counts) => counts.passes,
+        Solved::Limit(counts) => counts.passes,
+        Solved::Refused(_) => 0,
+    }
+}
+
+// A third number, to a report that has room for it.
+fn write_third(report: &mut [u32], third: u32)
+    ensures { λ _. ⌜ now (report .exit) ≡ withThird third (now (report .entry)) ⌝ }
+{
+    if report.len() < 3 {
+        return;
+    }
+    report[2] = third;
 }
 
 // The two numbers, to a report that has room for both.
@@ -67,7 +90,7 @@ fn write(report: &mut [u32], first: u32, second: u32)
     report[1] = second;
 }
 
-// The night's plan: the kind of the result, in the report its two numbers, and for each atom its round and its rule.
+// The night's plan: the kind of the result, in the report its numbers, and for each atom its round and its rule.
 #[no_mangle]
 pub extern "C" fn saucepebbly_solve(
     words: &[i32],
@@ -78,11 +101,13 @@ pub extern "C" fn saucepebbly_solve(
 ) -> u32
     ensures { λ k. ⌜ Solves (now (words .entry)) limit (now (plan .entry)) (now (plan .exit)) (now (report .entry)) (now (report .exit)) (now (whys .entry)) (now (whys .exit)) k ⌝ }
 {
-    let solution = solver::solve(words, limit, plan);
+    let ask = Ask { limit };
+    let solution = solver::solve(words, ask, plan);
     let solved = solution.solved;
     let records = solution.whys;
     whys::write(records, whys);
     write(report, first(solved), second(solved));
+    write_third(report, third(solved));
     kind(solved)
 }
 

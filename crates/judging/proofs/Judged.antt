@@ -76,7 +76,7 @@ fault-good lent.Nothing e = refl
 fault-good (lent.Plan room) e = at (ltCase room 256)
   where
     at : (room < 256) ⊎ (256 ≤ room) → earns (lent.Plan room) ≡ none
-    at (inl l) = absurd (no-fault (ifLt-yes room 256 (fault.Refused refusal.ShortPlan) fault.Nothing l) e)
+    at (inl l) = absurd (no-fault (ifLt-yes room 256 _ _ l) e)
     at (inr l) = plan-good room l
 
 pub fault-bad : (b : Buffer) (f : Refusal) → faultOf b ≡ fault.Refused f → (earns b ≡ some (numberOf f)) × (placeOf f ≡ 0)
@@ -85,9 +85,9 @@ fault-bad (lent.Plan room) f e = at (ltCase room 256)
   where
     at : (room < 256) ⊎ (256 ≤ room) → (earns (lent.Plan room) ≡ some (numberOf f)) × (placeOf f ≡ 0)
     at (inl l) =
-        let i = same-fault (ifLt-yes room 256 (fault.Refused refusal.ShortPlan) fault.Nothing l) e in
+        let i = same-fault (ifLt-yes room 256 _ _ l) e in
         (ifLt-yes room 256 (some 10) none l ∙ ap (λ (g : Refusal). some (numberOf g)) i, sym (ap placeOf i))
-    at (inr l) = absurd (no-fault e (ifLt-no room 256 (fault.Refused refusal.ShortPlan) fault.Nothing l))
+    at (inr l) = absurd (no-fault e (ifLt-no room 256 _ _ l))
 
 -- ---- the words
 

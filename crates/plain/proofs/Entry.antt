@@ -1,11 +1,12 @@
 -- The whole promise of `plain::solve`, for a refused table and for an accepted one. Assumes nothing.
-use mathlib.Core.Path.{_≡_, sym, _∙_, ap, subst}
+use mathlib.Core.Path.{_≡_, refl, sym, _∙_, ap, subst}
 use mathlib.Core.Option.{some}
 use mathlib.Core.List.{List}
 use Prim.Native.Nat.{ℕ}
 use lib.IntN.{ℤ}
 use lib.ListN.{length, replicate}
 use Rattle.meaning.specs.Program.{Program, AtomsIn}
+use Rattle.meaning.specs.Answers.{AnswerSet}
 use Rattle.results.specs.declared.Refusal.{Refusal}
 use Rattle.results.specs.declared.Solved.{Solved}
 use Rattle.results.specs.declared.Solved.the-variants as solved
@@ -21,12 +22,13 @@ use Rattle.judging.specs.declared.Buffer.the-variants.{Plan}
 use Rattle.judging.specs.Refusals.{Accepted, Refused}
 use Rattle.judging.specs.Judging.{Placed}
 use Rattle.judging.proofs.Refusals.{accepted-unique, refused-not-accepted, refused-unique}
-use Rattle.solver.specs.Solving.{planAfter, solvedBy, Meaning}
-use Rattle.plain.specs.Promise.{Searched, Plainly}
+use Rattle.promises.specs.Promises.{planAfter, solvedBy, Meaning}
+use Rattle.promises.proofs.Kept.{means}
+use Rattle.plain.specs.Promise.{plainCounts, Searched, Plainly}
 use Rattle.plain.specs.declared.Tried.{Tried}
 use Rattle.plain.specs.Plain.{Sided, resultOf}
 use Rattle.plain.proofs.Sides.{found-outcome}
-use Rattle.plain.proofs.Meant.{means, searched}
+use Rattle.plain.proofs.Meant.{searched}
 
 module _ (t : List ℤ) (lim : ℕ) (old new : List ℕ) (r : Solved) (f : Refusal) (h : Refused t (Plan (length old)) (numberOf f) (placeOf f)) (e : r ≡ solved.Refused f) where
   told : reportOf r ≡ refusalReport (numberOf f) (placeOf f)
@@ -52,15 +54,16 @@ module _ (t : List ℤ) (lim : ℕ) (old new : List ℕ) (r : Solved) (f : Refus
   }
 
 pub plainly-accepted : (t : List ℤ) (lim : ℕ) (old new : List ℕ) (r : Solved) (c : Contents) → Accepted t (Plan (length old)) c → AtomsIn (c .atoms) (program c)
-    → (p : Outcome) → solve (base (program c) (c .atoms)) plain lim ≡ some p → r ≡ solvedBy (p .result) (p .choices) 0 → new ≡ planAfter (c .atoms) (p .result) old
+    → (p : Outcome) → solve (base (program c) (c .atoms)) plain lim ≡ some p → r ≡ solvedBy (p .result) (plainCounts (p .choices)) → new ≡ planAfter (c .atoms) (p .result) old
     → Plainly t lim old new r
 plainly-accepted t lim old new r c a A p e told kept =
-    let m = means c A (a .noHead) (a .noAggregate) lim p e old new r told kept in
+    let L = theorems.laws (c .atoms) (program c) A (a .noHead) (a .noAggregate) in
+    let m = means (AnswerSet (program c)) (base (program c) (c .atoms)) L refl lim old new r plain p e (plainCounts (p .choices)) refl told kept in
     let s = searched c A (a .noHead) (a .noAggregate) lim p e old new r told kept in
     record {
       refused = λ n i. (λ h. absurd (m .taken n i h), λ h. absurd (refused-not-accepted t (Plan (length old)) n i c h a));
       untouched = λ n i h. absurd (m .taken n i h);
-      meaning = λ d b. subst (λ (x : Contents). Meaning x lim old new r) (accepted-unique t (Plan (length old)) c d a b) m;
+      meaning = λ d b. subst (λ (x : Contents). Meaning (x .atoms) (AnswerSet (program x)) lim old new r) (accepted-unique t (Plan (length old)) c d a b) m;
       searching = λ d b. subst (λ (x : Contents). (p : Outcome) × Searched x lim old new r p) (accepted-unique t (Plan (length old)) c d a b) (p, s);
     }
 
@@ -72,7 +75,7 @@ module _ (t : List ℤ) (lim : ℕ) (old new : List ℕ) (r : Solved) (c : Conte
       subst (λ (n : ℕ). Sided (program c) n lim (replicate 256 0) 0 found) (placed .atoms)
       (subst (λ (P : Program). Sided P (tb .atoms) lim (replicate 256 0) 0 found) (placed .rules) S)
 
-  pub plainly-found : r ≡ solvedBy (resultOf (tb .atoms) found) (found .choices) 0 → new ≡ planAfter (tb .atoms) (resultOf (tb .atoms) found) old → Plainly t lim old new r
+  pub plainly-found : r ≡ solvedBy (resultOf (tb .atoms) found) (plainCounts (found .choices)) → new ≡ planAfter (tb .atoms) (resultOf (tb .atoms) found) old → Plainly t lim old new r
   plainly-found told kept =
       let A = accepted-atoms t c (a .holds) in
       let q = theorems.search-ends (c .atoms) (program c) A (a .noHead) (a .noAggregate) lim plain in
@@ -80,5 +83,5 @@ module _ (t : List ℤ) (lim : ℕ) (old new : List ℕ) (r : Solved) (c : Conte
       let w = found-outcome (program c) (c .atoms) lim (theorems.laws (c .atoms) (program c) A (a .noHead) (a .noAggregate)) found of-contents p (q .1) in
       let n : resultOf (tb .atoms) found ≡ p .result = ap (λ (m : ℕ). resultOf m found) (placed .atoms) ∙ sym (w .0) in
       plainly-accepted t lim old new r c a A p (q .1)
-      (told ∙ ap (λ (x : Result). solvedBy x (found .choices) 0) n ∙ ap (λ (k : ℕ). solvedBy (p .result) k 0) (sym (w .1)))
+      (told ∙ ap (λ (x : Result). solvedBy x (plainCounts (found .choices))) n ∙ ap (λ (k : ℕ). solvedBy (p .result) (plainCounts k)) (sym (w .1)))
       (kept ∙ ap (λ (m : ℕ). planAfter m (resultOf (tb .atoms) found) old) (placed .atoms) ∙ ap (λ (x : Result). planAfter (c .atoms) x old) n)

@@ -11,16 +11,19 @@ use lib.IntN.{ℤ}
 use lib.ListN.{length}
 use Rattle.meaning.proofs.Cond.{some-inj}
 use Rattle.results.specs.declared.Solved.{Solved}
-use Rattle.results.specs.Results.{numberOf, placeOf, Report, kindOf, choicesOf, reportOf, refusalReport}
+use Rattle.results.specs.declared.Ask.{Ask}
+use Rattle.results.specs.declared.Counts.{Counts}
+use Rattle.results.specs.Results.{numberOf, placeOf, Report, kindOf, countsOf, reportOf, refusalReport}
 use Rattle.results.proofs.Determined.{report-determines}
 use Rattle.search.specs.Search.{Result, answer, noAnswer, limit, Outcome}
 use Rattle.table.specs.Contents.{Contents}
 use Rattle.judging.specs.declared.Buffer.the-variants.{Plan}
 use Rattle.judging.specs.Refusals.{Accepted}
 use Rattle.judging.proofs.Judged.{Decided, decided}
-use Rattle.solver.specs.Solving.{planAfter, solvedBy, Solving}
-use Rattle.plain.specs.Promise.{Plainly}
-use Rattle.plain.proofs.Meant.{choices-by}
+use Rattle.promises.specs.Promises.{counted, reported, planAfter, solvedBy}
+use Rattle.promises.proofs.Kept.{counts-by}
+use Rattle.solver.specs.Solving.{Solving}
+use Rattle.plain.specs.Promise.{plainCounts, Plainly}
 
 module _ (t : List ℤ) (lim : ℕ) (old : List ℕ) where
   unique-by : Decided t (Plan (length old)) → (new new′ : List ℕ) (r r′ : Solved) → Plainly t lim old new r → Plainly t lim old new′ r′ → (r ≡ r′) × (new ≡ new′)
@@ -32,7 +35,7 @@ module _ (t : List ℤ) (lim : ℕ) (old : List ℕ) where
       let x = a .searching c h in
       let y = b .searching c h in
       let e : x .0 ≡ y .0 = some-inj (sym (x .1 .plainly) ∙ y .1 .plainly) in (
-        x .1 .result ∙ ap (λ (p : Outcome). solvedBy (p .result) (p .choices) 0) e ∙ sym (y .1 .result),
+        x .1 .result ∙ ap (λ (p : Outcome). solvedBy (p .result) (plainCounts (p .choices))) e ∙ sym (y .1 .result),
         x .1 .plan ∙ ap (λ (p : Outcome). planAfter (c .atoms) (p .result) old) e ∙ sym (y .1 .plan),
       )
 
@@ -41,23 +44,23 @@ module _ (t : List ℤ) (lim : ℕ) (old : List ℕ) where
 
 -- ---- beside `solver::solve`
 
-kind-by : (x : Result) (k s l m : ℕ) → kindOf (solvedBy x k s) ≡ kindOf (solvedBy x l m)
-kind-by (answer X) k s l m = refl
-kind-by noAnswer k s l m = refl
-kind-by limit k s l m = refl
+kind-by : (x : Result) (k l : Counts) → kindOf (solvedBy x k) ≡ kindOf (solvedBy x l)
+kind-by (answer X) k l = refl
+kind-by noAnswer k l = refl
+kind-by limit k l = refl
 
 -- a result whose kind is not 2, limit, reports no limit
-not-limit : (r : Solved) (x : Result) (k s : ℕ) → r ≡ solvedBy x k s → kindOf r ≢ 2 → x ≢ limit
-not-limit r x k s e n i = n (ap kindOf e ∙ ap (λ (y : Result). kindOf (solvedBy y k s)) i)
+not-limit : (r : Solved) (x : Result) (k : Counts) → r ≡ solvedBy x k → kindOf r ≢ 2 → x ≢ limit
+not-limit r x k e n i = n (ap kindOf e ∙ ap (λ (y : Result). kindOf (solvedBy y k)) i)
 
 -- what the two results have in common: r of the plain engine, r′ of the jumping one
 pub record Agree (r r′ : Solved) (new new′ : List ℕ) : Type 0 where
   pub kind : kindOf r ≡ kindOf r′
   pub plan : new ≡ new′
   pub refusal : (n i : ℕ) → (reportOf r ≡ refusalReport n i) ↔ (reportOf r′ ≡ refusalReport n i)
-  pub choices : choicesOf r′ ≤ choicesOf r
+  pub choices : countsOf r′ .choices ≤ countsOf r .choices
 
-module _ (t : List ℤ) (lim other : ℕ) (old new new′ : List ℕ) (r r′ : Solved) (a : Plainly t lim old new r) (b : Solving t other old new′ r′) where
+module _ (t : List ℤ) (lim : ℕ) (ask : Ask) (old new new′ : List ℕ) (r r′ : Solved) (a : Plainly t lim old new r) (b : Solving t ask old new′ r′) where
   -- both are refused exactly where 01's table says so
   refusals : (n i : ℕ) → (reportOf r ≡ refusalReport n i) ↔ (reportOf r′ ≡ refusalReport n i)
   refusals n i = (λ h. b .refused n i .1 (a .refused n i .0 h), λ h. a .refused n i .1 (b .refused n i .0 h))
@@ -66,7 +69,7 @@ module _ (t : List ℤ) (lim other : ℕ) (old new new′ : List ℕ) (r r′ : 
   agree-by n m (inl (f, h)) =
       let e = a .refused (numberOf f) (placeOf f) .1 h in
       let i = b .refused (numberOf f) (placeOf f) .1 h in
-      let k : choicesOf r′ ≡ choicesOf r = ap (λ (x : Report). x .choices) (i ∙ sym e) in
+      let k : countsOf r′ .choices ≡ countsOf r .choices = ap (λ (x : Report). x .counts .choices) (i ∙ sym e) in
       record {
         kind = ap (λ (x : Report). x .kind) (e ∙ sym i);
         plan = a .untouched (numberOf f) (placeOf f) e ∙ sym (b .untouched (numberOf f) (placeOf f) i);
@@ -78,13 +81,13 @@ module _ (t : List ℤ) (lim other : ℕ) (old new new′ : List ℕ) (r r′ : 
       let p = x .0 in
       let y = b .searching c h in
       let o = y .0 in
-      let w = x .1 .alike (not-limit r (p .result) (p .choices) 0 (x .1 .result) n) other o (y .2 .jumping) (not-limit r′ (o .result) (o .choices) (o .skips) (y .2 .result) m) in
-      let k : choicesOf r ≡ p .choices = ap choicesOf (x .1 .result) ∙ choices-by (p .result) (p .choices) 0 in
-      let l : choicesOf r′ ≡ o .choices = ap choicesOf (y .2 .result) ∙ choices-by (o .result) (o .choices) (o .skips) in
+      let w = x .1 .alike (not-limit r (p .result) (plainCounts (p .choices)) (x .1 .result) n) (ask .limit) o (y .1 .jumping) (not-limit r′ (o .result) (counted o) (y .1 .result) m) in
+      let k : countsOf r .choices ≡ p .choices = ap (λ (z : Solved). countsOf z .choices) (x .1 .result) ∙ ap (λ (z : Counts). z .choices) (counts-by (p .result) (plainCounts (p .choices))) in
+      let l : countsOf r′ .choices ≡ o .choices = ap (λ (z : Solved). countsOf z .choices) (y .1 .result) ∙ ap (λ (z : Counts). z .choices) (counts-by (o .result) (counted o)) in
       let q = w .1 in
       record {
-        kind = ap kindOf (x .1 .result) ∙ ap (λ (z : Result). kindOf (solvedBy z (p .choices) 0)) (sym (w .0)) ∙ kind-by (o .result) (p .choices) 0 (o .choices) (o .skips) ∙ sym (ap kindOf (y .2 .result));
-        plan = x .1 .plan ∙ ap (λ (z : Result). planAfter (c .atoms) z old) (sym (w .0)) ∙ sym (y .2 .plan);
+        kind = ap kindOf (x .1 .result) ∙ ap (λ (z : Result). kindOf (solvedBy z (plainCounts (p .choices)))) (sym (w .0)) ∙ kind-by (o .result) (plainCounts (p .choices)) (counted o) ∙ sym (ap kindOf (y .1 .result));
+        plan = x .1 .plan ∙ ap (λ (z : Result). planAfter (c .atoms) z old) (sym (w .0)) ∙ sym (y .1 .plan);
         refusal = refusals;
         choices = omega (arith, k, l, q);
       }

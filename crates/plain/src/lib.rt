@@ -9,14 +9,16 @@ ghost use Rattle.layout.specs.Layout.{Laid, programOf};
 ghost use Rattle.heads.specs.Heads.{Listed};
 ghost use Rattle.search.specs.Engine.{byTest};
 ghost use Rattle.search.specs.Base.{foundedTest};
-ghost use Rattle.solver.specs.Solving.{solvedBy, planWith, planAfter};
-ghost use Rattle.plain.specs.Promise.{Plainly};
+ghost use Rattle.promises.specs.Plans.{planWith};
+ghost use Rattle.promises.specs.Promises.{solvedBy, planAfter};
+ghost use Rattle.plain.specs.Promise.{plainCounts, Plainly};
 ghost use Rattle.plain.specs.Plain.{told, Sided, Chosen, resultOf};
 ghost use Rattle.plain.specs.declared.Ending.the-variants.{Limit};
 use heads::Lists;
 use interpretation::Choice;
 use judging::Buffer;
 use layout::Table;
+use results::Counts;
 use results::Solved;
 use table::Fault;
 
@@ -132,18 +134,22 @@ fn with(mut values: [u8; 256], p: usize, v: bool) -> [u8; 256]
 // What the search found, as a result; only an answer writes.
 fn report(found: Tried, n: usize, plan: &mut [u8]) -> Solved
     requires { ⌜ (n ≤ 256) × (n ≤ length (now plan)) ⌝ }
-    ensures { λ r. ⌜ (r ≡ solvedBy (resultOf n found) (found .choices) 0) × (now (plan .exit) ≡ planAfter n (resultOf n found) (now (plan .entry))) ⌝ }
+    ensures { λ r. ⌜ (r ≡ solvedBy (resultOf n found) (plainCounts (found .choices))) × (now (plan .exit) ≡ planAfter n (resultOf n found) (now (plan .entry))) ⌝ }
 {
-    let choices = found.choices;
+    let counts = Counts {
+        choices: found.choices,
+        skips: 0,
+        passes: 0,
+    };
     let ending = found.ending;
     match ending {
         Ending::Answer => {
             let values = found.values;
             write(values, n, plan);
-            Solved::Answer(choices, 0)
+            Solved::Answer(counts)
         }
-        Ending::Nothing => Solved::Nothing(choices, 0),
-        Ending::Limit => Solved::Limit(choices, 0),
+        Ending::Nothing => Solved::Nothing(counts),
+        Ending::Limit => Solved::Limit(counts),
     }
 }
 

@@ -22,7 +22,7 @@ noPlan = replicate 256 0
 pub record Tells (t : List ℤ) (lim : ℕ) (old : List ℕ) (wrote : ℕ) (new : List ℕ) : Type 0 where
   pub result : Solved
   pub plan : List ℕ
-  pub solving : Solving t lim noPlan plan result
+  pub solving : Solving t (record { limit = lim }) noPlan plan result
   pub line : PrintAs result 256 plan old wrote new
 
 pub record Replies (bs old : List ℕ) (wrote : ℕ) (new : List ℕ) : Type 0 where

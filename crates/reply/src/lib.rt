@@ -1,5 +1,6 @@
 // From a text to its line (01, "The text program"): read, solve, print. Meaning: `specs/Reply.antt`.
 ghost use Rattle.reply.specs.Reply.{Tells, Replies};
+use results::Ask;
 use results::Solved;
 use text::printer::print;
 use text::reader::Reading;
@@ -10,7 +11,8 @@ fn tell(words: &[i32], limit: u32, out: &mut [u8]) -> usize
     ensures { λ r. ⌜ Tells (now (words .entry)) limit (now (out .entry)) r (now (out .exit)) ⌝ }
 {
     let mut plan = [0u8; 256];
-    let solution = solver::solve(words, limit, &mut plan);
+    let ask = Ask { limit };
+    let solution = solver::solve(words, ask, &mut plan);
     let solved = solution.solved;
     print(solved, 256, &plan, out)
 }

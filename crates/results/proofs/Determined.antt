@@ -80,24 +80,24 @@ kinds : {x y : Report} → x ≡ y → x .kind ≡ y .kind
 kinds e = ap (λ (r : Report). r .kind) e
 
 pub report-refusal : (r : Solved) (n i : ℕ) → reportOf r ≡ refusalReport n i → (f : Refusal) × (r ≡ solved.Refused f) × (numberOf f ≡ n) × (placeOf f ≡ i)
-report-refusal (solved.Answer c s) n i e = absurd (let k = kinds e in omega arith)
-report-refusal (solved.Nothing c s) n i e = absurd (let k = kinds e in omega arith)
-report-refusal (solved.Limit c s) n i e = absurd (let k = kinds e in omega arith)
+report-refusal (solved.Answer k) n i e = absurd (let z = kinds e in omega arith)
+report-refusal (solved.Nothing k) n i e = absurd (let z = kinds e in omega arith)
+report-refusal (solved.Limit k) n i e = absurd (let z = kinds e in omega arith)
 report-refusal (solved.Refused f) n i e = (f, refl, ap (λ (r : Report). r .number) e, ap (λ (r : Report). r .place) e)
 
 pub report-determines : (r s : Solved) → reportOf r ≡ reportOf s → r ≡ s
-report-determines (solved.Answer c s) (solved.Answer c′ s′) e = ap (λ (r : Report). solved.Answer (r .choices) (r .skips)) e
-report-determines (solved.Answer c s) (solved.Nothing c′ s′) e = absurd (let k = kinds e in omega arith)
-report-determines (solved.Answer c s) (solved.Limit c′ s′) e = absurd (let k = kinds e in omega arith)
-report-determines (solved.Answer c s) (solved.Refused f) e = absurd (let k = kinds e in omega arith)
-report-determines (solved.Nothing c s) (solved.Answer c′ s′) e = absurd (let k = kinds e in omega arith)
-report-determines (solved.Nothing c s) (solved.Nothing c′ s′) e = ap (λ (r : Report). solved.Nothing (r .choices) (r .skips)) e
-report-determines (solved.Nothing c s) (solved.Limit c′ s′) e = absurd (let k = kinds e in omega arith)
-report-determines (solved.Nothing c s) (solved.Refused f) e = absurd (let k = kinds e in omega arith)
-report-determines (solved.Limit c s) (solved.Answer c′ s′) e = absurd (let k = kinds e in omega arith)
-report-determines (solved.Limit c s) (solved.Nothing c′ s′) e = absurd (let k = kinds e in omega arith)
-report-determines (solved.Limit c s) (solved.Limit c′ s′) e = ap (λ (r : Report). solved.Limit (r .choices) (r .skips)) e
-report-determines (solved.Limit c s) (solved.Refused f) e = absurd (let k = kinds e in omega arith)
+report-determines (solved.Answer k) (solved.Answer k′) e = ap (λ (r : Report). solved.Answer (r .counts)) e
+report-determines (solved.Answer k) (solved.Nothing k′) e = absurd (let z = kinds e in omega arith)
+report-determines (solved.Answer k) (solved.Limit k′) e = absurd (let z = kinds e in omega arith)
+report-determines (solved.Answer k) (solved.Refused f) e = absurd (let z = kinds e in omega arith)
+report-determines (solved.Nothing k) (solved.Answer k′) e = absurd (let z = kinds e in omega arith)
+report-determines (solved.Nothing k) (solved.Nothing k′) e = ap (λ (r : Report). solved.Nothing (r .counts)) e
+report-determines (solved.Nothing k) (solved.Limit k′) e = absurd (let z = kinds e in omega arith)
+report-determines (solved.Nothing k) (solved.Refused f) e = absurd (let z = kinds e in omega arith)
+report-determines (solved.Limit k) (solved.Answer k′) e = absurd (let z = kinds e in omega arith)
+report-determines (solved.Limit k) (solved.Nothing k′) e = absurd (let z = kinds e in omega arith)
+report-determines (solved.Limit k) (solved.Limit k′) e = ap (λ (r : Report). solved.Limit (r .counts)) e
+report-determines (solved.Limit k) (solved.Refused f) e = absurd (let z = kinds e in omega arith)
 report-determines (solved.Refused f) s e =
     let w = report-refusal s (numberOf f) (placeOf f) (sym e) in
     ap solved.Refused (refusal-determined f (w .0) (sym (w .2)) (sym (w .3))) ∙ sym (w .1)
@@ -108,17 +108,17 @@ checks : {x y : CheckReport} → x ≡ y → x .kind ≡ y .kind
 checks e = ap (λ (r : CheckReport). r .kind) e
 
 pub check-refusal : (r : Checked) (n i : ℕ) → checkReportOf r ≡ refusalCheck n i → (f : Refusal) × (r ≡ checked.Refused f) × (numberOf f ≡ n) × (placeOf f ≡ i)
-check-refusal checked.Yes n i e = absurd (let k = checks e in omega arith)
-check-refusal checked.No n i e = absurd (let k = checks e in omega arith)
+check-refusal checked.Yes n i e = absurd (let z = checks e in omega arith)
+check-refusal checked.No n i e = absurd (let z = checks e in omega arith)
 check-refusal (checked.Refused f) n i e = (f, refl, ap (λ (r : CheckReport). r .number) e, ap (λ (r : CheckReport). r .place) e)
 
 pub check-determines : (r s : Checked) → checkReportOf r ≡ checkReportOf s → r ≡ s
 check-determines checked.Yes checked.Yes e = refl
-check-determines checked.Yes checked.No e = absurd (let k = checks e in omega arith)
-check-determines checked.Yes (checked.Refused f) e = absurd (let k = checks e in omega arith)
-check-determines checked.No checked.Yes e = absurd (let k = checks e in omega arith)
+check-determines checked.Yes checked.No e = absurd (let z = checks e in omega arith)
+check-determines checked.Yes (checked.Refused f) e = absurd (let z = checks e in omega arith)
+check-determines checked.No checked.Yes e = absurd (let z = checks e in omega arith)
 check-determines checked.No checked.No e = refl
-check-determines checked.No (checked.Refused f) e = absurd (let k = checks e in omega arith)
+check-determines checked.No (checked.Refused f) e = absurd (let z = checks e in omega arith)
 check-determines (checked.Refused f) s e =
     let w = check-refusal s (numberOf f) (placeOf f) (sym e) in
     ap checked.Refused (refusal-determined f (w .0) (sym (w .2)) (sym (w .3))) ∙ sym (w .1)

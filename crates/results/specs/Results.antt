@@ -3,11 +3,12 @@
 --   numberOf, placeOf    01's table "What comes back": the columns No. and Place; from 14 on the refusals that 02 adds ("place 0 unless it names another")
 --   reportOf             what each result of solving says; refusalReport n i: "for a refusal its number and place with counts 0"
 --   checkReportOf        what each result of the check says; refusalCheck n i: "refused with number and place"
---   kindOf, choicesOf, skipsOf, checkKind   parts of these
+--   kindOf, countsOf, checkKind   parts of these
 -- Assumes nothing.
 use Prim.Native.Nat.{ℕ}
 use Rattle.results.specs.declared.Refusal.{Refusal}
 use Rattle.results.specs.declared.Refusal.the-variants as refusal
+use Rattle.results.specs.declared.Counts.{Counts}
 use Rattle.results.specs.declared.Solved.{Solved}
 use Rattle.results.specs.declared.Solved.the-variants as solved
 use Rattle.results.specs.declared.Checked.{Checked}
@@ -53,34 +54,33 @@ placeOf refusal.ShortBuffer = 0
 placeOf refusal.NamesLost = 0
 placeOf refusal.ShortWords = 0
 
--- ---- what a result of solving says: "for a refusal its number and place with counts 0; otherwise the choices and the skips"
+-- ---- what a result of solving says: "for a refusal its number and place with counts 0; otherwise the choices and the skips", and the passes (request 11)
 
 -- the kind is 0 answer, 1 none, 2 limit, 3 refused; number and place are 0 where nothing is refused
 pub record Report : Type 0 where
   pub kind : ℕ
   pub number : ℕ
   pub place : ℕ
-  pub choices : ℕ
-  pub skips : ℕ
+  pub counts : Counts
+
+abbrev pub noCounts : Counts
+noCounts = record { choices = 0; skips = 0; passes = 0 }
 
 abbrev pub reportOf : Solved → Report
-reportOf (solved.Answer c s) = record { kind = 0; number = 0; place = 0; choices = c; skips = s }
-reportOf (solved.Nothing c s) = record { kind = 1; number = 0; place = 0; choices = c; skips = s }
-reportOf (solved.Limit c s) = record { kind = 2; number = 0; place = 0; choices = c; skips = s }
-reportOf (solved.Refused f) = record { kind = 3; number = numberOf f; place = placeOf f; choices = 0; skips = 0 }
+reportOf (solved.Answer k) = record { kind = 0; number = 0; place = 0; counts = k }
+reportOf (solved.Nothing k) = record { kind = 1; number = 0; place = 0; counts = k }
+reportOf (solved.Limit k) = record { kind = 2; number = 0; place = 0; counts = k }
+reportOf (solved.Refused f) = record { kind = 3; number = numberOf f; place = placeOf f; counts = noCounts }
 
 -- refused with this number and place
 abbrev pub refusalReport : ℕ → ℕ → Report
-refusalReport n i = record { kind = 3; number = n; place = i; choices = 0; skips = 0 }
+refusalReport n i = record { kind = 3; number = n; place = i; counts = noCounts }
 
 abbrev pub kindOf : Solved → ℕ
 kindOf r = reportOf r .kind
 
-abbrev pub choicesOf : Solved → ℕ
-choicesOf r = reportOf r .choices
-
-abbrev pub skipsOf : Solved → ℕ
-skipsOf r = reportOf r .skips
+abbrev pub countsOf : Solved → Counts
+countsOf r = reportOf r .counts
 
 -- ---- what the check says: "yes, no or refused with number and place"
 

@@ -43,11 +43,23 @@ pub enum Refusal {
     ShortWords,
 }
 
-// The result of solving: an answer, none or limit with the choices and the skips, or a refusal.
+// What is asked with a table: the limit, any unsigned 32-bit number.
+pub struct Ask {
+    pub limit: u32,
+}
+
+// What a result of solving counts: the choices, the skips, and the greatest number of passes that any one propagation took.
+pub struct Counts {
+    pub choices: u32,
+    pub skips: u32,
+    pub passes: u32,
+}
+
+// The result of solving: an answer, none or limit with the counts, or a refusal.
 pub enum Solved {
-    Answer(u32, u32),
-    Nothing(u32, u32),
-    Limit(u32, u32),
+    Answer(Counts),
+    Nothing(Counts),
+    Limit(Counts),
     Refused(Refusal),
 }
 

@@ -3,6 +3,7 @@
 // though the plain one has not met it. tools/plain.py makes the texts and the lines of `stdout`.
 use libc::STDIN_FILENO;
 use libc::STDOUT_FILENO;
+use results::Ask;
 use results::Solved;
 use text::printer::print;
 use text::reader::Reading;
@@ -29,9 +30,9 @@ fn print_line(solved: Solved, plan: &[u8]) {
 // The kind of a result: 0 answer, 1 none, 2 limit; of a refusal its number and place, past all kinds.
 fn code(solved: Solved) -> u64 {
     match solved {
-        Solved::Answer(_, _) => 0,
-        Solved::Nothing(_, _) => 1,
-        Solved::Limit(_, _) => 2,
+        Solved::Answer(_) => 0,
+        Solved::Nothing(_) => 1,
+        Solved::Limit(_) => 2,
         Solved::Refused(f) => (results::number(f) as u64) * 4294967296
             + (results::place(f) as u64) % 4294967296,
     }
@@ -55,7 +56,8 @@ fn run_table(words: &[i32], limit: u32) {
     let solved = plain::solve(words, limit, &mut plan);
     print_line(solved, &plan);
     let mut other = [0u8; 256];
-    let solution = solver::solve(words, limit, &mut other);
+    let ask = Ask { limit };
+    let solution = solver::solve(words, ask, &mut other);
     let jumped = solution.solved;
     let kind = code(solved);
     if kind != 2 {

@@ -5,6 +5,7 @@ mod output;
 
 use input::MOST_BYTES;
 use input::MOST_WORDS;
+use results::Ask;
 use results::Checked;
 use results::Refusal;
 use results::Solved;
@@ -18,12 +19,12 @@ fn print_refusal(refusal: Refusal) {
 // The solver's result, with the atoms of the plan; past them no byte is 1.
 fn print_solved(solved: Solved, plan: &[u8]) {
     match solved {
-        Solved::Answer(_, _) => {
+        Solved::Answer(_) => {
             output::text(b"answer");
             output::atoms(plan);
         }
-        Solved::Nothing(_, _) => output::text(b"none"),
-        Solved::Limit(_, _) => output::text(b"limit"),
+        Solved::Nothing(_) => output::text(b"none"),
+        Solved::Limit(_) => output::text(b"limit"),
         Solved::Refused(refusal) => print_refusal(refusal),
     }
 }
@@ -121,7 +122,8 @@ fn print_plans(is_accepted: bool, table: &[i32], plan: &mut [u8]) {
 // A case's line.
 fn print_line(table: &[i32], plan: &mut [u8]) {
     let checked = solver::approve(table, plan);
-    let solution = solver::solve(table, 4294967295, plan);
+    let ask = Ask { limit: 4294967295 };
+    let solution = solver::solve(table, ask, plan);
     let solved = solution.solved;
     print_solved(solved, plan);
     output::text(b" /");

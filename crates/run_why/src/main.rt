@@ -3,6 +3,7 @@
 // bytes, low byte first.
 use libc::STDIN_FILENO;
 use libc::STDOUT_FILENO;
+use results::Ask;
 use results::Solved;
 use rounds::Why;
 use text::printer::print;
@@ -61,7 +62,8 @@ fn print_whys(whys: [Why; 256]) {
 // Both lines of a table.
 fn run_table(words: &[i32], limit: u32) {
     let mut plan = [0u8; 256];
-    let solution = solver::solve(words, limit, &mut plan);
+    let ask = Ask { limit };
+    let solution = solver::solve(words, ask, &mut plan);
     let solved = solution.solved;
     let whys = solution.whys;
     print_line(solved, &plan);

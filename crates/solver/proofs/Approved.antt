@@ -29,7 +29,8 @@ use Rattle.judging.specs.declared.Buffer.{Buffer}
 use Rattle.judging.specs.declared.Buffer.the-variants.{Plan}
 use Rattle.judging.specs.Refusals.{Accepted, Refused}
 use Rattle.judging.proofs.Refusals.{accepted-unique, refused-not-accepted, refused-unique}
-use Rattle.solver.specs.Approving.{planAtoms, CheckRefused, before, byte, Bits, BadByte, Approving}
+use Rattle.promises.specs.Plans.{planAtoms}
+use Rattle.solver.specs.Approving.{CheckRefused, before, byte, Bits, BadByte, Approving}
 use Rattle.solver.specs.Plans.{badFrom, checkedBy}
 use Rattle.solver.specs.declared.plans.Offer.{Offer}
 use Rattle.solver.specs.declared.plans.Offer.the-variants as offer

@@ -14,7 +14,7 @@ use Rattle.meaning.proofs.Cond.{ifLt-yes}
 use Rattle.interpretation.specs.State.{truthOf, trueAtoms}
 use Rattle.interpretation.specs.View.{cellBy, valued}
 use Rattle.interpretation.proofs.Laws.{cells-suc}
-use Rattle.solver.specs.Solving.{bitOf, bytesFrom, planWith}
+use Rattle.promises.specs.Plans.{bitOf, bytesFrom, planWith}
 
 pub bytes-length : (X : Atoms) (p n : ℕ) → length (bytesFrom X p n) ≡ n
 bytes-length X p zero = refl

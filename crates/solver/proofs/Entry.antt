@@ -8,19 +8,24 @@ use lib.IntN.{ℤ}
 use lib.ListN.{length}
 use Rattle.meaning.specs.Program.{AtomsIn}
 use Rattle.results.specs.declared.Refusal.{Refusal}
+use Rattle.results.specs.declared.Ask.{Ask}
 use Rattle.results.specs.declared.Solved.{Solved}
 use Rattle.results.specs.declared.Solved.the-variants as solved
 use Rattle.results.specs.Results.{numberOf, placeOf, Report, reportOf, refusalReport}
+use Rattle.meaning.specs.Answers.{AnswerSet}
 use Rattle.search.specs.Search.{Outcome, jump, solve}
+use Rattle.steps.proofs.Ending.{passes≤, passes≥}
 use Rattle.search.specs.Base.{base}
+use Rattle.search.proofs.Base.{laws}
 use Rattle.table.specs.Contents.{Contents, program}
 use Rattle.judging.specs.declared.Buffer.the-variants.{Plan}
 use Rattle.judging.specs.Refusals.{Accepted, Refused}
 use Rattle.judging.proofs.Refusals.{accepted-unique, refused-not-accepted, refused-unique}
-use Rattle.solver.specs.Solving.{planAfter, solvedBy, Meaning, Searching, Solving}
-use Rattle.solver.proofs.Solved.{means, searches}
+use Rattle.promises.specs.Promises.{counted, reported, planAfter, Meaning, Searching}
+use Rattle.promises.proofs.Kept.{means, searches}
+use Rattle.solver.specs.Solving.{Solving}
 
-module _ (t : List ℤ) (lim : ℕ) (old new : List ℕ) (r : Solved) (f : Refusal) (h : Refused t (Plan (length old)) (numberOf f) (placeOf f)) (e : r ≡ solved.Refused f) where
+module _ (t : List ℤ) (ask : Ask) (old new : List ℕ) (r : Solved) (f : Refusal) (h : Refused t (Plan (length old)) (numberOf f) (placeOf f)) (e : r ≡ solved.Refused f) where
   told : reportOf r ≡ refusalReport (numberOf f) (placeOf f)
   told = ap reportOf e
 
@@ -35,7 +40,7 @@ module _ (t : List ℤ) (lim : ℕ) (old new : List ℕ) (r : Solved) (f : Refus
       let u = refused-unique t (Plan (length old)) (numberOf f) (placeOf f) n i h k in
       told ∙ ap (λ (m : ℕ). refusalReport m (placeOf f)) (u .0) ∙ ap (refusalReport n) (u .1)
 
-  pub solving-refused : new ≡ old → Solving t lim old new r
+  pub solving-refused : new ≡ old → Solving t ask old new r
   solving-refused k = record {
     refused = λ n i. (row n i, back n i);
     untouched = λ n i j. k;
@@ -43,15 +48,16 @@ module _ (t : List ℤ) (lim : ℕ) (old new : List ℕ) (r : Solved) (f : Refus
     searching = λ c a. absurd (refused-not-accepted t (Plan (length old)) (numberOf f) (placeOf f) c h a);
   }
 
-pub solving-accepted : (t : List ℤ) (lim : ℕ) (old new : List ℕ) (r : Solved) (c : Contents) → Accepted t (Plan (length old)) c → AtomsIn (c .atoms) (program c)
-    → (o : Outcome) → solve (base (program c) (c .atoms)) jump lim ≡ some o → r ≡ solvedBy (o .result) (o .choices) (o .skips) → new ≡ planAfter (c .atoms) (o .result) old
-    → Solving t lim old new r
-solving-accepted t lim old new r c a A o e told kept =
-    let m = means c A (a .noHead) (a .noAggregate) lim o e old new r told kept in
-    let s = searches c A (a .noHead) (a .noAggregate) lim o e old new r told kept in
+pub solving-accepted : (t : List ℤ) (ask : Ask) (old new : List ℕ) (r : Solved) (c : Contents) → Accepted t (Plan (length old)) c → AtomsIn (c .atoms) (program c)
+    → (o : Outcome) → solve (base (program c) (c .atoms)) jump (ask .limit) ≡ some o → r ≡ reported o → new ≡ planAfter (c .atoms) (o .result) old → Solving t ask old new r
+solving-accepted t ask old new r c a A o e told kept =
+    let L = laws (c .atoms) (program c) A (a .noHead) (a .noAggregate) in
+    let m = means (AnswerSet (program c)) (base (program c) (c .atoms)) L refl (ask .limit) old new r jump o e (counted o) refl told kept in
+    let s = searches (AnswerSet (program c)) (base (program c) (c .atoms)) L refl (ask .limit) old new r (λ i q. (passes≥ (program c) (c .atoms) i q, passes≤ (program c) (c .atoms) i q)) o e told kept in
     record {
       refused = λ n i. (λ h. absurd (m .taken n i h), λ h. absurd (refused-not-accepted t (Plan (length old)) n i c h a));
       untouched = λ n i h. absurd (m .taken n i h);
-      meaning = λ d b. subst (λ (x : Contents). Meaning x lim old new r) (accepted-unique t (Plan (length old)) c d a b) m;
-      searching = λ d b. subst (λ (x : Contents). (o : Outcome) × (p : Outcome) × Searching x lim old new r o p) (accepted-unique t (Plan (length old)) c d a b) s;
+      meaning = λ d b. subst (λ (x : Contents). Meaning (x .atoms) (AnswerSet (program x)) (ask .limit) old new r) (accepted-unique t (Plan (length old)) c d a b) m;
+      searching = λ d b.
+          subst (λ (x : Contents). (o : Outcome) × Searching (AnswerSet (program x)) (base (program x) (x .atoms)) r o (ask .limit) old new) (accepted-unique t (Plan (length old)) c d a b) (o, s);
     }

@@ -17,6 +17,7 @@ use Rattle.meaning.specs.Answers.{AnswerSet}
 use Rattle.meaning.proofs.Tools.{contra}
 use Rattle.meaning.proofs.Cond.{ifLt-yes, ifLt-no, ltCase}
 use Rattle.results.specs.declared.Refusal.{Refusal}
+use Rattle.results.specs.declared.Counts.{Counts}
 use Rattle.results.specs.declared.Solved.{Solved}
 use Rattle.results.specs.declared.Solved.the-variants as solved
 use Rattle.rounds.specs.declared.Why.{Why}
@@ -29,8 +30,8 @@ use Rattle.judging.specs.declared.Buffer.{Buffer}
 use Rattle.judging.specs.declared.Buffer.the-variants.{Plan}
 use Rattle.judging.specs.Refusals.{Accepted, Refused}
 use Rattle.judging.proofs.Refusals.{accepted-unique}
-use Rattle.solver.specs.Solving.{bitOf, bytesFrom, planWith, planAfter, Meaning}
-use Rattle.solver.specs.Approving.{planAtoms}
+use Rattle.promises.specs.Plans.{bitOf, bytesFrom, planWith, planAtoms}
+use Rattle.promises.specs.Promises.{planAfter, Meaning}
 use Rattle.solver.specs.Explaining.{Explaining}
 use Rattle.solver.specs.Plans.{whysFor}
 use Rattle.solver.proofs.Bytes.{plan-long}
@@ -81,18 +82,18 @@ module _ (t : List ℤ) (lim : ℕ) (old new : List ℕ) (c : Contents) (a : Acc
   X = planAtoms (c .atoms) new
 
   -- what the plan says is the answer set
-  plan-answers : (k s : ℕ) → Meaning c lim old new (solved.Answer k s) → AnswerSet (program c) X
-  plan-answers k s m =
-      let x = m .answers k s refl in
+  plan-answers : (k : Counts) → Meaning (c .atoms) (AnswerSet (program c)) lim old new (solved.Answer k) → AnswerSet (program c) X
+  plan-answers k m =
+      let x = m .answers k refl in
       let n = c .atoms in
-      subst (AnswerSet (program c)) (sym (ap (planAtoms n) (x .3) ∙ plan-atoms n (x .0) old (answer-range n (program c) A (x .0) (x .1)))) (x .1)
+      subst (AnswerSet (program c)) (sym (ap (planAtoms n) (x .written) ∙ plan-atoms n (x .atoms) old (answer-range n (program c) A (x .atoms) (x .isAnswer)))) (x .isAnswer)
 
-  pub explaining-accepted : (r : Solved) → Meaning c lim old new r → Recorded ws (whysFor r (whyOf (program c) (c .atoms) X)) → Explaining t (Plan (length old)) new r ws
-  explaining-accepted (solved.Answer k s) m w = record {
+  pub explaining-accepted : (r : Solved) → Meaning (c .atoms) (AnswerSet (program c)) lim old new r → Recorded ws (whysFor r (whyOf (program c) (c .atoms) X)) → Explaining t (Plan (length old)) new r ws
+  explaining-accepted (solved.Answer k) m w = record {
     answers = λ d b e. subst (λ (x : Contents). Explained (program x) (x .atoms) (planAtoms (x .atoms) new) ws) (accepted-unique t (Plan (length old)) c d a b)
-        (answer-recorded (c .atoms) (program c) A (a .noHead) X (plan-answers k s m) ws w);
+        (answer-recorded (c .atoms) (program c) A (a .noHead) X (plan-answers k m) ws w);
     others = λ n. absurd (n refl);
   }
-  explaining-accepted (solved.Nothing k s) m w = record { answers = λ d b e. absurd (omega arith); others = λ n. w }
-  explaining-accepted (solved.Limit k s) m w = record { answers = λ d b e. absurd (omega arith); others = λ n. w }
+  explaining-accepted (solved.Nothing k) m w = record { answers = λ d b e. absurd (omega arith); others = λ n. w }
+  explaining-accepted (solved.Limit k) m w = record { answers = λ d b e. absurd (omega arith); others = λ n. w }
   explaining-accepted (solved.Refused f) m w = record { answers = λ d b e. absurd (omega arith); others = λ n. w }

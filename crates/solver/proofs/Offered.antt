@@ -14,7 +14,8 @@ use Rattle.meaning.proofs.Cond.{ifLt-yes, ifLt-no, ltCase}
 use Rattle.interpretation.specs.State.{Cell, defined, truthOf, trueAtoms, Defined, AllDefined}
 use Rattle.interpretation.specs.View.{cellBy, byteOf, valued}
 use Rattle.interpretation.proofs.Laws.{cells-suc, valued-at}
-use Rattle.solver.specs.Approving.{planAtoms, Bit, isZero, isOne, Bits, BadByte}
+use Rattle.promises.specs.Plans.{planAtoms}
+use Rattle.solver.specs.Approving.{Bit, isZero, isOne, Bits, BadByte}
 use Rattle.solver.specs.Plans.{badOr, badFrom, Offers}
 use Rattle.solver.specs.declared.plans.Offer.{Offer}
 use Rattle.solver.specs.declared.plans.Offer.the-variants as offer

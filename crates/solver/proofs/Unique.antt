@@ -1,46 +1,45 @@
 -- Each promise has one answer only: two results, and two later buffers, that meet it for the same input are equal. Assumes nothing.
 --   solving-unique     of the promise of `solve` on result and plan;  explaining-unique: on rounds and rules;  solution-unique: of the whole
---   meaning-unique     of demand 2 alone, as far as the kind of the result and the plan go, short of the limit
+--                      of demand 2 alone: `meaning-unique` of crate `promises`
 --   approving-unique   of the promise of `approve`
 use mathlib.Core.Path.{_≡_, refl, sym, _∙_, ap, subst}
 use mathlib.Core.Logic.{_≢_, _⊎_, inl, inr}
 use mathlib.Core.Bool.{Bool, true, false}
-use mathlib.Core.Option.{some}
 use mathlib.Core.List.{List}
 use Prim.Native.Nat.{ℕ}
 use native.Mathlib.Omega.{arith}
 use lib.IntN.{ℤ}
 use lib.ListN.{length}
-use Rattle.meaning.specs.Aggregates.{Atoms}
 use Rattle.meaning.specs.Answers.{model, AnswerSet}
 use Rattle.meaning.specs.Foundedness.{founded}
 use Rattle.meaning.proofs.Tools.{clash}
-use Rattle.meaning.proofs.Cond.{some-inj, eqCase}
-use Rattle.meaning.proofs.Order.{first-unique}
+use Rattle.meaning.proofs.Cond.{eqCase}
 use Rattle.results.specs.declared.Refusal.{Refusal}
 use Rattle.results.specs.declared.Checked.{Checked}
-use Rattle.results.specs.Results.{numberOf, placeOf, kindOf, Report, reportOf, refusalReport}
+use Rattle.results.specs.Results.{numberOf, placeOf, kindOf, Report}
 use Rattle.results.proofs.Determined.{report-determines, check-determines}
+use Rattle.results.specs.declared.Ask.{Ask}
 use Rattle.results.specs.declared.Solved.{Solved}
-use Rattle.results.specs.declared.Solved.the-variants as solved
 use Rattle.rounds.specs.declared.Why.{Why}
 use Rattle.rounds.specs.Rounds.{noWhys}
 use Rattle.rounds.proofs.Records.{recorded-one}
-use Rattle.search.specs.Search.{Outcome}
+use Rattle.search.specs.Base.{base}
+use Rattle.promises.proofs.Unique.{searching-unique}
 use Rattle.table.specs.Contents.{Contents, program}
 use Rattle.judging.specs.declared.Buffer.the-variants.{Plan}
 use Rattle.judging.specs.Refusals.{Accepted, Refused}
 use Rattle.judging.proofs.Judged.{Decided, decided}
-use Rattle.solver.specs.Approving.{planAtoms, CheckRefused, before, byte, Bits, BadByte, Approving}
+use Rattle.promises.specs.Plans.{planAtoms}
+use Rattle.solver.specs.Approving.{CheckRefused, before, byte, Bits, BadByte, Approving}
 use Rattle.solver.specs.Explaining.{Explaining}
 use Rattle.solver.specs.declared.Solution.{Solution}
 use Rattle.solver.proofs.Offered.{bad-or-good}
 use Rattle.solver.proofs.Approved.{plan-range, tested-answer, answer-tested}
 use Rattle.table.proofs.Accepted.{accepted-atoms}
-use Rattle.solver.specs.Solving.{planWith, planAfter, solvedBy, Meaning, Searching, Solving}
+use Rattle.solver.specs.Solving.{Solving}
 
-module _ (t : List ℤ) (lim : ℕ) (old : List ℕ) where
-  unique-by : Decided t (Plan (length old)) → (new new′ : List ℕ) (r r′ : Solved) → Solving t lim old new r → Solving t lim old new′ r′ → (r ≡ r′) × (new ≡ new′)
+module _ (t : List ℤ) (ask : Ask) (old : List ℕ) where
+  unique-by : Decided t (Plan (length old)) → (new new′ : List ℕ) (r r′ : Solved) → Solving t ask old new r → Solving t ask old new′ r′ → (r ≡ r′) × (new ≡ new′)
   unique-by (inl (f, h)) new new′ r r′ a b =
       let e = a .refused (numberOf f) (placeOf f) .1 h in
       let i = b .refused (numberOf f) (placeOf f) .1 h in
@@ -48,69 +47,40 @@ module _ (t : List ℤ) (lim : ℕ) (old : List ℕ) where
   unique-by (inr (c, h)) new new′ r r′ a b =
       let x = a .searching c h in
       let y = b .searching c h in
-      let e : x .0 ≡ y .0 = some-inj (sym (x .2 .jumping) ∙ y .2 .jumping) in (
-        x .2 .result ∙ ap (λ (o : Outcome). solvedBy (o .result) (o .choices) (o .skips)) e ∙ sym (y .2 .result),
-        x .2 .plan ∙ ap (λ (o : Outcome). planAfter (c .atoms) (o .result) old) e ∙ sym (y .2 .plan),
-      )
+      searching-unique (AnswerSet (program c)) (base (program c) (c .atoms)) (ask .limit) old new new′ r r′ (x .0) (y .0) (x .1) (y .1)
 
-  pub solving-unique : (new new′ : List ℕ) (r r′ : Solved) → Solving t lim old new r → Solving t lim old new′ r′ → (r ≡ r′) × (new ≡ new′)
+  pub solving-unique : (new new′ : List ℕ) (r r′ : Solved) → Solving t ask old new r → Solving t ask old new′ r′ → (r ≡ r′) × (new ≡ new′)
   solving-unique = unique-by (decided t (Plan (length old)))
 
 -- ---- rounds and rules
 
 -- what a refused table gives is no answer
-refused-kind : (t : List ℤ) (lim : ℕ) (old new : List ℕ) (r : Solved) → Solving t lim old new r → (n i : ℕ) → Refused t (Plan (length old)) n i → kindOf r ≢ 0
-refused-kind t lim old new r a n i h e =
+refused-kind : (t : List ℤ) (ask : Ask) (old new : List ℕ) (r : Solved) → Solving t ask old new r → (n i : ℕ) → Refused t (Plan (length old)) n i → kindOf r ≢ 0
+refused-kind t ask old new r a n i h e =
     let k : kindOf r ≡ 3 = ap (λ (x : Report). x .kind) (a .refused n i .1 h) in
     omega arith
 
-module _ (t : List ℤ) (lim : ℕ) (old new : List ℕ) (r : Solved) (s : Solving t lim old new r) (ws ws′ : List Why) (a : Explaining t (Plan (length old)) new r ws) (b : Explaining t (Plan (length old)) new r ws′) where
+module _ (t : List ℤ) (ask : Ask) (old new : List ℕ) (r : Solved) (s : Solving t ask old new r) (ws ws′ : List Why) (a : Explaining t (Plan (length old)) new r ws) (b : Explaining t (Plan (length old)) new r ws′) where
   pub explaining-unique : ws ≡ ws′
   explaining-unique = at (decided t (Plan (length old))) (eqCase (kindOf r) 0)
     where
       at : Decided t (Plan (length old)) → (kindOf r ≡ 0) ⊎ (kindOf r ≢ 0) → ws ≡ ws′
       at d (inr n) = recorded-one ws ws′ noWhys (a .others n) (b .others n)
-      at (inl (f, h)) (inl e) = absurd (refused-kind t lim old new r s (numberOf f) (placeOf f) h e)
+      at (inl (f, h)) (inl e) = absurd (refused-kind t ask old new r s (numberOf f) (placeOf f) h e)
       at (inr (c, h)) (inl e) = recorded-one ws ws′ _ (a .answers c h e .defined) (b .answers c h e .defined)
 
 -- two whole results
-module _ (t : List ℤ) (lim : ℕ) (old : List ℕ) where
+module _ (t : List ℤ) (ask : Ask) (old : List ℕ) where
   -- what is promised of a result
   abbrev pub Promised : List ℕ → Solution → Type 0
-  Promised new r = Solving t lim old new (r .solved) × Explaining t (Plan (length old)) new (r .solved) (r .whys)
+  Promised new r = Solving t ask old new (r .solved) × Explaining t (Plan (length old)) new (r .solved) (r .whys)
 
   pub solution-unique : (new new′ : List ℕ) (r r′ : Solution) → Promised new r → Promised new′ r′ → (r ≡ r′) × (new ≡ new′)
   solution-unique new new′ r r′ a b =
-      let u = solving-unique t lim old new new′ (r .solved) (r′ .solved) (a .0) (b .0) in
+      let u = solving-unique t ask old new new′ (r .solved) (r′ .solved) (a .0) (b .0) in
       let c = subst (λ (p : List ℕ). Explaining t (Plan (length old)) p (r .solved) (r′ .whys)) (sym (u .1)) (subst (λ (x : Solved). Explaining t (Plan (length old)) new′ x (r′ .whys)) (sym (u .0)) (b .1)) in
-      let w = explaining-unique t lim old new (r .solved) (a .0) (r .whys) (r′ .whys) (a .1) c in
+      let w = explaining-unique t ask old new (r .solved) (a .0) (r .whys) (r′ .whys) (a .1) c in
       (λ i. record { solved = u .0 i; whys = w i }, u .1)
-
--- ---- from the meaning alone
-
-module _ (c : Contents) (lim : ℕ) (old : List ℕ) where
-  one-answer : (new new′ : List ℕ) (r r′ : Solved) → Meaning c lim old new r → Meaning c lim old new′ r′ → (k s k′ s′ : ℕ) → r ≡ solved.Answer k s → r′ ≡ solved.Answer k′ s′ → new ≡ new′
-  one-answer new new′ r r′ a b k s k′ s′ e i =
-      let x = a .answers k s e in
-      let y = b .answers k′ s′ i in
-      x .3 ∙ ap (λ (X : Atoms). planWith (c .atoms) X old) (first-unique (c .atoms) (AnswerSet (program c)) (x .0) (y .0) (x .1) (x .2) (y .1) (y .2)) ∙ sym (y .3)
-
-  -- where one says none, the other does not answer
-  none-against : (new new′ : List ℕ) (r r′ : Solved) → Meaning c lim old new r → Meaning c lim old new′ r′ → (k s k′ s′ : ℕ) → r ≡ solved.Answer k s → r′ ≡ solved.Nothing k′ s′ → ⊥
-  none-against new new′ r r′ a b k s k′ s′ e i = let x = a .answers k s e in b .none k′ s′ i .0 (x .0) (x .1)
-
-  pub meaning-unique : (new new′ : List ℕ) (r r′ : Solved) → Meaning c lim old new r → Meaning c lim old new′ r′ → ((k s : ℕ) → r ≢ solved.Limit k s) → ((k s : ℕ) → r′ ≢ solved.Limit k s)
-      → (kindOf r ≡ kindOf r′) × (new ≡ new′)
-  meaning-unique new new′ (solved.Answer k s) (solved.Answer k′ s′) a b n m = (refl, one-answer new new′ _ _ a b k s k′ s′ refl refl)
-  meaning-unique new new′ (solved.Answer k s) (solved.Nothing k′ s′) a b n m = absurd (none-against new new′ _ _ a b k s k′ s′ refl refl)
-  meaning-unique new new′ (solved.Nothing k s) (solved.Answer k′ s′) a b n m = absurd (none-against new′ new _ _ b a k′ s′ k s refl refl)
-  meaning-unique new new′ (solved.Nothing k s) (solved.Nothing k′ s′) a b n m = (refl, a .none k s refl .1 ∙ sym (b .none k′ s′ refl .1))
-  meaning-unique new new′ (solved.Limit k s) r′ a b n m = absurd (n k s refl)
-  meaning-unique new new′ (solved.Answer k s) (solved.Limit k′ s′) a b n m = absurd (m k′ s′ refl)
-  meaning-unique new new′ (solved.Nothing k s) (solved.Limit k′ s′) a b n m = absurd (m k′ s′ refl)
-  meaning-unique new new′ (solved.Refused f) r′ a b n m = absurd (a .taken (numberOf f) (placeOf f) refl)
-  meaning-unique new new′ (solved.Answer k s) (solved.Refused f) a b n m = absurd (b .taken (numberOf f) (placeOf f) refl)
-  meaning-unique new new′ (solved.Nothing k s) (solved.Refused f) a b n m = absurd (b .taken (numberOf f) (placeOf f) refl)
 
 -- ---- of the check
 

@@ -1,20 +1,15 @@
 -- What `approve` promises (01, "What comes back"): "The check never writes and returns yes, no or refused with number and place"; "A plan offered for checking
 -- is approved exactly if it is an answer set". Definitions only: to be believed.
---   planAtoms n plan    the atoms of 1 .. n whose byte is 1
 --   Bits n plan         every byte of the first n is 0 or 1
 --   BadByte n plan i    11: "a byte of the first N is neither 0 nor 1", i the first such index
 --   CheckRefused        the refusals of `Refused`, and after them 11: number and place
 -- Assumes nothing.
 use mathlib.Core.Path.{_≡_}
 use mathlib.Core.Logic.{_↔_}
-use mathlib.Core.Bool.{Bool, false}
 use mathlib.Core.List.{List}
-use Prim.Native.Nat.{ℕ, zero, suc, _<_}
-use lib.Dec.{eqb}
+use Prim.Native.Nat.{ℕ, _<_}
 use lib.IntN.{ℤ}
 use lib.ListN.{length, getD}
-use Rattle.meaning.specs.Cond.{ifLt}
-use Rattle.meaning.specs.Aggregates.{Atoms}
 use Rattle.meaning.specs.Answers.{AnswerSet}
 use Rattle.results.specs.declared.Checked.{Checked}
 use Rattle.results.specs.declared.Checked.the-variants as checked
@@ -22,10 +17,7 @@ use Rattle.results.specs.Results.{checkReportOf, refusalCheck}
 use Rattle.table.specs.Contents.{Contents, program}
 use Rattle.judging.specs.declared.Buffer.the-variants.{Plan}
 use Rattle.judging.specs.Refusals.{Accepted, Refused}
-
-abbrev pub planAtoms : ℕ → List ℕ → Atoms
-planAtoms n plan zero = false
-planAtoms n plan (suc i) = ifLt i n (eqb (getD plan i 0) 1) false
+use Rattle.promises.specs.Plans.{planAtoms}
 
 -- a byte of a plan that is 0 or 1
 pub data Bit (b : ℕ) : Type 0 where

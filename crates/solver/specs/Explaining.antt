@@ -15,7 +15,7 @@ use Rattle.rounds.specs.Rounds.{noWhys, Recorded, Explained}
 use Rattle.table.specs.Contents.{Contents, program}
 use Rattle.judging.specs.declared.Buffer.{Buffer}
 use Rattle.judging.specs.Refusals.{Accepted}
-use Rattle.solver.specs.Approving.{planAtoms}
+use Rattle.promises.specs.Plans.{planAtoms}
 
 -- t: the words; b: the buffer that was lent; plan: its bytes afterwards; an answer is of kind 0
 pub record Explaining (t : List ℤ) (b : Buffer) (plan : List ℕ) (r : Solved) (ws : List Why) : Type 0 where

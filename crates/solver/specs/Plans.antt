@@ -23,8 +23,8 @@ use Rattle.rounds.specs.Rounds.{noWhys}
 use Rattle.search.specs.Search.{Result}
 use Rattle.outcome.specs.declared.Found.{Found}
 use Rattle.jumping.specs.Jumping.{resultOf}
-use Rattle.solver.specs.Solving.{solvedBy, planAfter}
-use Rattle.solver.specs.Approving.{planAtoms}
+use Rattle.promises.specs.Plans.{planAtoms}
+use Rattle.promises.specs.Promises.{solvedBy, planAfter}
 use Rattle.solver.specs.declared.plans.Offer.{Offer}
 use Rattle.solver.specs.declared.plans.Offer.the-variants as offer
 
@@ -33,7 +33,7 @@ abbrev pub resultFor : ℕ → Found → Result
 resultFor n r = resultOf (r .ending) (trueAtoms n (view (r .it) .cell))
 
 abbrev pub reportOf : ℕ → Found → Solved
-reportOf n r = solvedBy (resultFor n r) (r .choices) (r .skips)
+reportOf n r = solvedBy (resultFor n r) (record { choices = r .choices; skips = r .skips; passes = r .passes })
 
 abbrev pub bufferOf : ℕ → Found → List ℕ → List ℕ
 bufferOf n r old = planAfter n (resultFor n r) old
@@ -61,9 +61,9 @@ pub record Offers (n : ℕ) (plan values : List ℕ) : Type 0 where
 -- ---- rounds and rules
 
 abbrev pub isAnswer : Solved → Bool
-isAnswer (solved.Answer c s) = true
-isAnswer (solved.Nothing c s) = false
-isAnswer (solved.Limit c s) = false
+isAnswer (solved.Answer k) = true
+isAnswer (solved.Nothing k) = false
+isAnswer (solved.Limit k) = false
 isAnswer (solved.Refused f) = false
 
 abbrev pub whysIf : Bool → (ℕ → Why) → ℕ → Why

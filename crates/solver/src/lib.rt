@@ -9,12 +9,14 @@ ghost use Rattle.layout.specs.Layout.{Laid, programOf};
 ghost use Rattle.judging.specs.declared.Buffer.the-variants.{Plan};
 ghost use Rattle.rounds.specs.Rounds.{whyOf, Recorded};
 ghost use Rattle.solver.specs.Solving.{Solving};
+ghost use Rattle.promises.specs.Plans.{planAtoms};
 ghost use Rattle.solver.specs.Explaining.{Explaining};
-ghost use Rattle.solver.specs.Approving.{planAtoms, Approving};
+ghost use Rattle.solver.specs.Approving.{Approving};
 ghost use Rattle.solver.specs.Plans.{badFrom, checkedBy, isAnswer, whysFor};
 use judging::Buffer;
 use layout::Table;
 use plans::Offer;
+use results::Ask;
 use results::Checked;
 use results::Refusal;
 use results::Solved;
@@ -29,10 +31,10 @@ pub struct Solution {
     pub whys: [Why; 256],
 }
 
-// The night's plan: an answer, none or limit with the choices and the skips, or a refusal. Only an answer writes, and only the bytes of the
+// The night's plan: an answer, none or limit with the counts, or a refusal. Only an answer writes, and only the bytes of the
 // table's own atoms; only an answer explains.
-pub fn solve(words: &[i32], limit: u32, plan: &mut [u8]) -> Solution
-    ensures { λ r. ⌜ Solving (now (words .entry)) limit (now (plan .entry)) (now (plan .exit)) (r .solved)
+pub fn solve(words: &[i32], ask: Ask, plan: &mut [u8]) -> Solution
+    ensures { λ r. ⌜ Solving (now (words .entry)) ask (now (plan .entry)) (now (plan .exit)) (r .solved)
         × Explaining (now (words .entry)) (Plan (length (now (plan .entry)))) (now (plan .exit)) (r .solved) (r .whys) ⌝ }
 {
     let room = plan.len();
@@ -46,6 +48,7 @@ pub fn solve(words: &[i32], limit: u32, plan: &mut [u8]) -> Solution
         }
         Fault::Nothing => {
             let tb = judged.table;
+            let limit = ask.limit;
             let found = jumping::search(words, tb, limit);
             let atoms = tb.atoms;
             let solved = plans::report(found, atoms, plan);
@@ -60,9 +63,9 @@ fn is_answer(solved: Solved) -> bool
     ensures { λ r. ⌜ r ≡ isAnswer solved ⌝ }
 {
     match solved {
-        Solved::Answer(_, _) => true,
-        Solved::Nothing(_, _) => false,
-        Solved::Limit(_, _) => false,
+        Solved::Answer(_) => true,
+        Solved::Nothing(_) => false,
+        Solved::Limit(_) => false,
         Solved::Refused(_) => false,
     }
 }

@@ -1,14 +1,15 @@
-// The plan buffer: what an answer writes, and what an offered plan says. Meaning: `specs/Plans.antt` and `specs/Solving.antt`.
+// The plan buffer: what an answer writes, and what an offered plan says. Meaning: `specs/Plans.antt` here and in crate `promises`.
 ghost use mathlib.Core.Path.{_≡_};
 ghost use Prim.Native.Nat.{_≤_};
 ghost use lib.Dec.{eqb};
 ghost use lib.ListN.{length};
 ghost use Rattle.interpretation.specs.State.{trueAtoms};
 ghost use Rattle.interpretation.specs.View.{valued};
-ghost use Rattle.solver.specs.Solving.{bitOf, planWith};
+ghost use Rattle.promises.specs.Plans.{bitOf, planWith};
 ghost use Rattle.solver.specs.Plans.{reportOf, bufferOf, badFrom, Offers};
 use outcome::Ending;
 use outcome::Found;
+use results::Counts;
 use results::Solved;
 
 // The plan's byte of an atom, from its value's byte.
@@ -35,18 +36,21 @@ pub fn report(found: Found, n: usize, plan: &mut [u8]) -> Solved
     requires { ⌜ (n ≤ 256) × (n ≤ length (now plan)) ⌝ }
     ensures { λ r. ⌜ (r ≡ reportOf n found) × (now (plan .exit) ≡ bufferOf n found (now (plan .entry))) ⌝ }
 {
-    let choices = found.choices;
-    let skips = found.skips;
+    let counts = Counts {
+        choices: found.choices,
+        skips: found.skips,
+        passes: found.passes,
+    };
     let ending = found.ending;
     match ending {
         Ending::Answer => {
             let it = found.it;
             let values = it.values;
             write(values, n, plan);
-            Solved::Answer(choices, skips)
+            Solved::Answer(counts)
         }
-        Ending::Nothing => Solved::Nothing(choices, skips),
-        Ending::Limit => Solved::Limit(choices, skips),
+        Ending::Nothing => Solved::Nothing(counts),
+        Ending::Limit => Solved::Limit(counts),
     }
 }
 

@@ -61,9 +61,9 @@ abbrev pub answerLine : ℕ → ℕ → ℕ → List ℕ → List ℕ
 answerLine c s n plan = pair answerWord c s ++ 58 ∷ atomsFrom 1 (take (min n 256) plan) ++ 10 ∷ []
 
 abbrev pub lineOf : Solved → ℕ → List ℕ → List ℕ
-lineOf (solved.Answer c s) n plan = answerLine c s n plan
-lineOf (solved.Nothing c s) n plan = line noneWord c s
-lineOf (solved.Limit c s) n plan = line limitWord c s
+lineOf (solved.Answer k) n plan = answerLine (k .choices) (k .skips) n plan
+lineOf (solved.Nothing k) n plan = line noneWord (k .choices) (k .skips)
+lineOf (solved.Limit k) n plan = line limitWord (k .choices) (k .skips)
 lineOf (solved.Refused r) n plan = line refusedWord (numberOf r) (placeOf r)
 
 -- ---- "returns how much it wrote and keeps the rest of the buffer". Any line fits into 1,100 bytes; to a shorter buffer nothing is written

@@ -132,15 +132,25 @@ pub fn print(solved: Solved, atoms: usize, plan: &[u8], out: &mut [u8]) -> usize
         return 0;
     }
     match solved {
-        Solved::Answer(choices, skips) => put_answer(
-            choices as u64,
-            skips as u64,
+        Solved::Answer(counts) => put_answer(
+            counts.choices as u64,
+            counts.skips as u64,
             atoms,
             plan,
             out,
         ),
-        Solved::Nothing(choices, skips) => put_line(b"none ", choices as u64, skips as u64, out),
-        Solved::Limit(choices, skips) => put_line(b"limit ", choices as u64, skips as u64, out),
+        Solved::Nothing(counts) => put_line(
+            b"none ",
+            counts.choices as u64,
+            counts.skips as u64,
+            out,
+        ),
+        Solved::Limit(counts) => put_line(
+            b"limit ",
+            counts.choices as u64,
+            counts.skips as u64,
+            out,
+        ),
         Solved::Refused(r) => put_line(b"refused ", number(r) as u64, place(r) as u64, out),
     }
 }

@@ -2,7 +2,7 @@
 use borrow.Author.Needs.{needs}
 use mathlib.Core.Path.{_≡_, sym, ap, _∙_}
 use Prim.Native.Nat.{ℕ}
-use Rattle.dock.specs.Dock.{firstOf, reported}
+use Rattle.dock.specs.Dock.{firstOf, secondOf, thirdOf, reported, withThird}
 use Rattle.dock.proofs.saucepebbly_solve.Statement.{statement}
 use Rattle.dock.proofs.saucepebbly_solve.Tie as tie
 
@@ -21,6 +21,12 @@ second-requires c κs = search needs
 write-requires-2 : tie.Need-write-requires-2
 write-requires-2 c κs = search needs
 
+third-requires : tie.Need-third-requires
+third-requires c κs = search needs
+
+write-third-requires : tie.Need-write-third-requires
+write-third-requires c κs = search needs
+
 kind-requires : tie.Need-kind-requires
 kind-requires c κs = search needs
 
@@ -35,7 +41,9 @@ same-length-3 c = search needs
 
 returns : tie.Need-returns
 returns c =
-    let w = c .before .before .before in
+    let x = c .before .before .before in
+    let h = x .before in
+    let w = h .before .before .before .before in
     let s = w .before in
     let f = s .before in
     let y = f .before .before .before .before in
@@ -48,7 +56,10 @@ returns c =
       solving = r .solve .ensures .0;
       explaining = r .solve .ensures .1;
       kind = c .kind .ensures;
-      report = w .write2 .ensures ∙ ap (λ (m : ℕ). reported m (s .second .result) old) (f .first .ensures) ∙ ap (λ (n : ℕ). reported (firstOf q) n old) (s .second .ensures);
+      report = x .write-third .ensures
+          ∙ ap (withThird (h .third .result))
+          (w .write2 .ensures ∙ ap (λ (m : ℕ). reported m (s .second .result) old) (f .first .ensures) ∙ ap (λ (n : ℕ). reported (firstOf q) n old) (s .second .ensures))
+          ∙ ap (λ (p : ℕ). withThird p (reported (firstOf q) (secondOf q) old)) (h .third .ensures);
       whys = y .write .ensures;
     }
 
@@ -61,6 +72,8 @@ saucepebbly-solve-spec =
     first-requires
     second-requires
     write-requires-2
+    third-requires
+    write-third-requires
     kind-requires
     same-length
     same-length-2

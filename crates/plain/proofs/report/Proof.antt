@@ -3,7 +3,8 @@ use borrow.Author.Needs.{needs}
 use mathlib.Core.Path.{_≡_, sym, ap, _∙_}
 use Rattle.interpretation.specs.State.{trueAtoms}
 use Rattle.interpretation.specs.View.{valued}
-use Rattle.solver.specs.Solving.{planAfter, solvedBy}
+use Rattle.promises.specs.Promises.{planAfter, solvedBy}
+use Rattle.plain.specs.Promise.{plainCounts}
 use Rattle.plain.specs.declared.Ending.{Ending}
 use Rattle.plain.specs.Plain.{resultBy}
 use Rattle.plain.proofs.report.Statement.{statement}
@@ -30,7 +31,7 @@ returns c =
     let e = w .before .before .before in
     let a = e .before .before .before .args in
     let X = trueAtoms (a .n) (valued (a .found .values)) in (
-      sym (ap (λ (x : Ending). solvedBy (resultBy x X) (a .found .choices) 0) (e .enum-told .given .1)),
+      sym (ap (λ (x : Ending). solvedBy (resultBy x X) (plainCounts (a .found .choices))) (e .enum-told .given .1)),
       w .write .ensures ∙ sym (ap (λ (x : Ending). planAfter (a .n) (resultBy x X) (a .plan .now)) (e .enum-told .given .1)),
     )
 
@@ -38,7 +39,7 @@ returns-2 : tie.Need-returns-2
 returns-2 c =
     let a = c .before .before .before .args in
     let X = trueAtoms (a .n) (valued (a .found .values)) in (
-      sym (ap (λ (x : Ending). solvedBy (resultBy x X) (a .found .choices) 0) (c .enum-told2 .given .1)),
+      sym (ap (λ (x : Ending). solvedBy (resultBy x X) (plainCounts (a .found .choices))) (c .enum-told2 .given .1)),
       sym (ap (λ (x : Ending). planAfter (a .n) (resultBy x X) (a .plan .now)) (c .enum-told2 .given .1)),
     )
 
@@ -46,7 +47,7 @@ returns-3 : tie.Need-returns-3
 returns-3 c =
     let a = c .before .before .before .args in
     let X = trueAtoms (a .n) (valued (a .found .values)) in (
-      sym (ap (λ (x : Ending). solvedBy (resultBy x X) (a .found .choices) 0) (c .enum-told3 .given .1)),
+      sym (ap (λ (x : Ending). solvedBy (resultBy x X) (plainCounts (a .found .choices))) (c .enum-told3 .given .1)),
       sym (ap (λ (x : Ending). planAfter (a .n) (resultBy x X) (a .plan .now)) (c .enum-told3 .given .1)),
     )
 

@@ -11,7 +11,7 @@ use lib.ListN.{length, getD, set, length-set}
 use mir.Val.{boolByte}
 use Rattle.interpretation.specs.State.{trueAtoms}
 use Rattle.interpretation.specs.View.{valued}
-use Rattle.solver.specs.Solving.{bitOf, planWith}
+use Rattle.promises.specs.Plans.{bitOf, planWith}
 use Rattle.solver.proofs.Bytes.{plan-more, plan-byte}
 use Rattle.plain.proofs.write.Statement.{statement}
 use Rattle.plain.proofs.write.Tie as tie

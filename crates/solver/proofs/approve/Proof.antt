@@ -15,7 +15,8 @@ use Rattle.judging.specs.declared.Buffer.the-variants.{Plan}
 use Rattle.judging.specs.Refusals.{Accepted}
 use Rattle.judging.specs.Judging.{Placed}
 use Rattle.judging.proofs.Judged.{plan-wide, judged-refused, judged-taken}
-use Rattle.solver.specs.Approving.{planAtoms, before}
+use Rattle.promises.specs.Plans.{planAtoms}
+use Rattle.solver.specs.Approving.{before}
 use Rattle.solver.specs.Plans.{badFrom, checkedBy}
 use Rattle.solver.proofs.Approved.{approving-refused, approving-accepted}
 use Rattle.solver.proofs.approve.Statement.{statement}

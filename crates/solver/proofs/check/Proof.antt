@@ -9,7 +9,7 @@ use Rattle.meaning.specs.Aggregates.{Atoms}
 use Rattle.meaning.specs.Answers.{model}
 use Rattle.meaning.specs.Foundedness.{founded}
 use Rattle.layout.specs.Layout.{programOf}
-use Rattle.solver.specs.Approving.{planAtoms}
+use Rattle.promises.specs.Plans.{planAtoms}
 use Rattle.solver.specs.Plans.{badFrom, checkedBy}
 use Rattle.solver.specs.declared.plans.Offer.{Offer}
 use Rattle.solver.specs.declared.plans.Offer.the-variants as offer

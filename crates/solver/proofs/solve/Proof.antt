@@ -20,8 +20,8 @@ use Rattle.judging.specs.Judging.{Placed}
 use Rattle.judging.proofs.Judged.{plan-wide, judged-refused, judged-taken}
 use Rattle.rounds.specs.declared.Why.{Why}
 use Rattle.rounds.specs.Rounds.{whyOf, Recorded}
-use Rattle.solver.specs.Solving.{planAfter}
-use Rattle.solver.specs.Approving.{planAtoms}
+use Rattle.promises.specs.Plans.{planAtoms}
+use Rattle.promises.specs.Promises.{planAfter}
 use Rattle.solver.specs.Plans.{resultFor, whysFor}
 use Rattle.solver.proofs.Entry.{solving-refused, solving-accepted}
 use Rattle.solver.proofs.Explained.{after-long, explaining-refused, explaining-accepted}
@@ -77,7 +77,7 @@ returns c =
     let j = c .before .before .before .before in
     let a = j .before .before .args in
     let b = Plan (length (a .plan .now)) in (
-      solving-refused (a .words .now) (a .limit) (a .plan .now) (a .plan .now) (solved.Refused (f .0 .0)) (f .0 .0)
+      solving-refused (a .words .now) (a .ask) (a .plan .now) (a .plan .now) (solved.Refused (f .0 .0)) (f .0 .0)
           (judged-refused (a .words .now) b (j .judge .result) (f .0 .0) (j .judge .ensures) (f .1)) refl refl,
       explaining-refused (a .words .now) b (a .plan .now) (f .0 .0) (c .nothing .result) (c .nothing .ensures),
     )
@@ -101,14 +101,14 @@ returns-2 c =
     let new = r .report .last .1 .1 .0 in
     let g = s .search .ensures in
     let o = endOf (tb .atoms) (s .search .result) (g .0) in
-    let e : solve (base (program d) (d .atoms)) jump (a .limit) ≡ _ = ap (λ (P : Program). solve (base P (d .atoms)) jump (a .limit)) (sym (p .rules))
-    ∙ ap (λ (n : ℕ). solve (base (programOf (a .words .now) tb) n) jump (a .limit)) (sym (p .atoms)) ∙ g .1 in
-    let z = solving-accepted (a .words .now) (a .limit) (a .plan .now) new q d (x .1) A o e (r .report .ensures .0)
+    let e : solve (base (program d) (d .atoms)) jump (a .ask .limit) ≡ _ = ap (λ (P : Program). solve (base P (d .atoms)) jump (a .ask .limit)) (sym (p .rules))
+    ∙ ap (λ (n : ℕ). solve (base (programOf (a .words .now) tb) n) jump (a .ask .limit)) (sym (p .atoms)) ∙ g .1 in
+    let z = solving-accepted (a .words .now) (a .ask) (a .plan .now) new q d (x .1) A o e (r .report .ensures .0)
     (r .report .ensures .1 ∙ ap (λ (n : ℕ). planAfter n (o .result) (a .plan .now)) (p .atoms)) in
     let w = subst (Recorded (c .whys-for .result))
     (ap (λ (P : Program). whysFor q (whyOf P (tb .atoms) (planAtoms (tb .atoms) new))) (p .rules) ∙ ap (λ (n : ℕ). whysFor q (whyOf (program d) n (planAtoms n new))) (p .atoms))
     (c .whys-for .ensures) in
-    (z, explaining-accepted (a .words .now) (a .limit) (a .plan .now) new d (x .1) A (c .whys-for .result) q (z .meaning d (x .1)) w)
+    (z, explaining-accepted (a .words .now) (a .ask .limit) (a .plan .now) new d (x .1) A (c .whys-for .result) q (z .meaning d (x .1)) w)
 
 pub solve-spec : {M : Type 1} → statement M
 solve-spec = tie.close (tie.spec judge-requires enum-known-fault nothing-requires enum-told search-requires report-requires whys-for-requires returns same-length returns-2)

@@ -7,7 +7,7 @@ use Rattle.layout.specs.Layout.{programOf}
 use Rattle.meaning.proofs.Tools.{not-is, not-false}
 use Rattle.rounds.specs.declared.Why.{Why}
 use Rattle.rounds.specs.Rounds.{whyOf, Recorded}
-use Rattle.solver.specs.Approving.{planAtoms}
+use Rattle.promises.specs.Plans.{planAtoms}
 use Rattle.solver.specs.Plans.{whysIf, whysFor}
 use Rattle.solver.proofs.whys_for.Statement.{statement}
 use Rattle.solver.proofs.whys_for.Tie as tie

@@ -9,7 +9,8 @@ use Rattle.interpretation.specs.View.{cells}
 use Rattle.outcome.specs.declared.Ending.{Ending}
 use Rattle.jumping.specs.Jumping.{resultOf}
 use Rattle.jumping.proofs.Plans.{plan-alone}
-use Rattle.solver.specs.Solving.{planWith, planAfter, solvedBy}
+use Rattle.promises.specs.Plans.{planWith}
+use Rattle.promises.specs.Promises.{planAfter, solvedBy}
 use Rattle.solver.proofs.plans.report.Statement.{statement}
 use Rattle.solver.proofs.plans.report.Tie as tie
 
@@ -35,7 +36,7 @@ returns c =
     let a = e .before .before .before .args in
     let i = a .found .it in
     let X = trueAtoms (a .n) (cells (i .values) (i .records)) in (
-      sym (ap (λ (x : Ending). solvedBy (resultOf x X) (a .found .choices) (a .found .skips)) (e .enum-told .given .1)),
+      sym (ap (λ (x : Ending). solvedBy (resultOf x X) (record { choices = a .found .choices; skips = a .found .skips; passes = a .found .passes })) (e .enum-told .given .1)),
       w .write .ensures ∙ ap (λ (Y : Atoms). planWith (a .n) Y (a .plan .now)) (sym (plan-alone (a .n) (i .values) (i .records)))
           ∙ sym (ap (λ (x : Ending). planAfter (a .n) (resultOf x X) (a .plan .now)) (e .enum-told .given .1)),
     )
@@ -45,7 +46,7 @@ returns-2 c =
     let a = c .before .before .before .args in
     let i = a .found .it in
     let X = trueAtoms (a .n) (cells (i .values) (i .records)) in (
-      sym (ap (λ (x : Ending). solvedBy (resultOf x X) (a .found .choices) (a .found .skips)) (c .enum-told2 .given .1)),
+      sym (ap (λ (x : Ending). solvedBy (resultOf x X) (record { choices = a .found .choices; skips = a .found .skips; passes = a .found .passes })) (c .enum-told2 .given .1)),
       sym (ap (λ (x : Ending). planAfter (a .n) (resultOf x X) (a .plan .now)) (c .enum-told2 .given .1)),
     )
 
@@ -54,7 +55,7 @@ returns-3 c =
     let a = c .before .before .before .args in
     let i = a .found .it in
     let X = trueAtoms (a .n) (cells (i .values) (i .records)) in (
-      sym (ap (λ (x : Ending). solvedBy (resultOf x X) (a .found .choices) (a .found .skips)) (c .enum-told3 .given .1)),
+      sym (ap (λ (x : Ending). solvedBy (resultOf x X) (record { choices = a .found .choices; skips = a .found .skips; passes = a .found .passes })) (c .enum-told3 .given .1)),
       sym (ap (λ (x : Ending). planAfter (a .n) (resultOf x X) (a .plan .now)) (c .enum-told3 .given .1)),
     )
 

@@ -8,7 +8,7 @@ use native.Mathlib.Omega.{arith}
 use lib.ListN.{length, set, length-set}
 use Rattle.interpretation.specs.State.{trueAtoms}
 use Rattle.interpretation.specs.View.{valued}
-use Rattle.solver.specs.Solving.{planWith}
+use Rattle.promises.specs.Plans.{planWith}
 use Rattle.solver.proofs.Bytes.{plan-more, plan-byte}
 use Rattle.solver.proofs.plans.write.Statement.{statement}
 use Rattle.solver.proofs.plans.write.Tie as tie

@@ -75,10 +75,10 @@ same-length c = search needs
 returns-2 : tie.Need-returns-2
 returns-2 c =
     let w = c .before .before in
-    let s = w .before .before .before in
+    let s = w .before .before .before .before .before in
     let k = s .solved .given in
     let t = s .before .before in
-    rw (k .1) (print-whole (solved.Answer (k .0 .0) (k .0 .1 .0)) _ _ _ _ _ (t .if1 .left) (w .put-answer .ensures .0) (omega (arith, w .put-answer .ensures .1)))
+    rw (k .1) (print-whole (solved.Answer (k .0 .0)) _ _ _ _ _ (t .if1 .left) (w .put-answer .ensures .0) (omega (arith, w .put-answer .ensures .1)))
 
 same-length-2 : tie.Need-same-length-2
 same-length-2 c = search needs
@@ -86,10 +86,10 @@ same-length-2 c = search needs
 returns-3 : tie.Need-returns-3
 returns-3 c =
     let w = c .before .before in
-    let s = w .before .before .before .before in
+    let s = w .before .before .before .before .before .before in
     let k = s .solved2 .given in
     let t = s .before .before in
-    rw (k .1) (print-whole (solved.Nothing (k .0 .0) (k .0 .1 .0)) _ _ _ _ _ (t .if1 .left) (w .put-line .ensures .0) (omega (arith, w .put-line .ensures .1)))
+    rw (k .1) (print-whole (solved.Nothing (k .0 .0)) _ _ _ _ _ (t .if1 .left) (w .put-line .ensures .0) (omega (arith, w .put-line .ensures .1)))
 
 same-length-3 : tie.Need-same-length-3
 same-length-3 c = search needs
@@ -97,10 +97,10 @@ same-length-3 c = search needs
 returns-4 : tie.Need-returns-4
 returns-4 c =
     let w = c .before .before in
-    let s = w .before .before .before .before in
+    let s = w .before .before .before .before .before .before in
     let k = s .solved3 .given in
     let t = s .before .before in
-    rw (k .1) (print-whole (solved.Limit (k .0 .0) (k .0 .1 .0)) _ _ _ _ _ (t .if1 .left) (w .put-line2 .ensures .0) (omega (arith, w .put-line2 .ensures .1)))
+    rw (k .1) (print-whole (solved.Limit (k .0 .0)) _ _ _ _ _ (t .if1 .left) (w .put-line2 .ensures .0) (omega (arith, w .put-line2 .ensures .1)))
 
 same-length-4 : tie.Need-same-length-4
 same-length-4 c = search needs
