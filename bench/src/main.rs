@@ -94,7 +94,7 @@ fn micros(time: Duration) -> f64 {
 /// Times one kind of call on every table; the plans given come from `plans`. Gives the outcomes and whether all agreed.
 fn compare(title: &str, calls: &[(&str, Call)], tables: &[tables::Named], plans: &[Vec<u8>]) -> (Vec<Outcome>, bool) {
     println!("\n{title}: microseconds, least of several rounds");
-    print!("{:32} {:>6} {:>22}", "table", "words", "kind and report");
+    print!("{:36} {:>6} {:>22}", "table", "words", "kind and report");
     calls.iter().for_each(|(name, _)| print!(" {name:>12}"));
     println!("   first column to each other");
     let (mut outcomes, mut all_agree) = (Vec::new(), true);
@@ -104,7 +104,7 @@ fn compare(title: &str, calls: &[(&str, Call)], tables: &[tables::Named], plans:
         let times = least_times(calls, &table.words, plan);
         let kind = ["yes", "no", "limit", "refused"][found[0].kind as usize];
         let text = format!("{kind} {} {}", found[0].report[0], found[0].report[1]);
-        print!("{:32} {:>6} {text:>22}", table.name, table.words.len());
+        print!("{:36} {:>6} {text:>22}", table.name, table.words.len());
         times.iter().for_each(|&time| print!(" {:>12.1}", micros(time)));
         times[1..].iter().for_each(|&time| print!(" {:>8.2}", micros(times[0]) / micros(time)));
         println!("{}", if agrees { "" } else { "   RESULTS DIFFER" });
@@ -120,11 +120,16 @@ fn main() {
     let (outcomes, solved_alike) = compare("solve (yes: answer, no: none)", &solvers(), &tables, &empty);
     let plans: Vec<Vec<u8>> = outcomes.into_iter().map(|outcome| outcome.plan).collect();
     let (_, approved_alike) = compare("approve of the plan found", &approvers(), &tables, &plans);
+    let judged = tables::judged();
+    let no_plans = vec![[vec![2u8], vec![0; 255]].concat(); judged.len()];
+    let (_, judged_alike) = compare("judging alone (a check whose first byte is 2)", &approvers(), &judged, &no_plans);
     #[cfg(dock)]
     stack::print_peaks(&tables);
+    #[cfg(dock)]
+    stack::print_judging(&judged);
     #[cfg(not(dock))]
     println!("\nno library: only the baseline was timed");
-    if !(solved_alike && approved_alike) {
+    if !(solved_alike && approved_alike && judged_alike) {
         println!("RESULTS DIFFER");
         std::process::exit(1);
     }

@@ -30,6 +30,7 @@ enum Call<'a> {
     Nothing,
     Solve(&'a [i32]),
     Approve(&'a [i32]),
+    Judge(&'a [i32]),
 }
 
 extern "C" fn run(argument: *mut c_void) -> *mut c_void {
@@ -39,6 +40,10 @@ extern "C" fn run(argument: *mut c_void) -> *mut c_void {
         Call::Nothing => {}
         Call::Solve(words) => drop(dock::solve(words, u32::MAX, &mut plan)),
         Call::Approve(words) => drop(dock::approve(words, &plan)),
+        Call::Judge(words) => {
+            plan[0] = 2;
+            drop(dock::approve(words, &plan))
+        }
     }
     std::ptr::null_mut()
 }
@@ -68,5 +73,13 @@ pub fn print_peaks(tables: &[tables::Named]) {
         let solve = overwritten(Call::Solve(&table.words)) - own;
         let approve = overwritten(Call::Approve(&table.words)) - own;
         println!("{:32} solve {solve:>7}  approve {approve:>7}", table.name);
+    }
+}
+
+pub fn print_judging(tables: &[tables::Named]) {
+    println!("\npeak stack of judging alone, bytes, the lists of rules by head among them");
+    let own = overwritten(Call::Nothing);
+    for table in tables {
+        println!("{:36} {:>7}", table.name, overwritten(Call::Judge(&table.words)) - own);
     }
 }

@@ -211,3 +211,100 @@ pub fn all() -> Vec<Named> {
         aggregates(10),
     ]
 }
+
+/// The same rules as `full`, with a second head atom each; the body's atoms are lower than both, or any.
+fn full_wide(seed: u64, any: bool) -> Named {
+    let mut random = Random(seed);
+    let mut builder = Builder::new(256);
+    while builder.rules.len() < 1024 {
+        let p = 129 + (builder.rules.len() as i32 % 128);
+        let top = if any { 256 } else { 128 };
+        let positive = distinct(&mut random, top, 5);
+        let negated = distinct(&mut random, 256, 4);
+        builder.rule(&[p, 129 + random.below(128)], &positive, &negated, &[]);
+    }
+    builder.table(if any { "1,024 rules, heads of 2, cycles" } else { "1,024 rules, heads of 2" })
+}
+
+/// 800 rules with heads of 16 atoms, as many with one body atom as there is room for. `ring`: the lower half is one cycle.
+fn heads_of_16(seed: u64, ring: bool) -> Named {
+    let mut random = Random(seed);
+    let mut builder = Builder::new(256);
+    let rules = if ring { 700 } else { 800 };
+    for i in 0..rules {
+        let head: Vec<i32> = distinct(&mut random, 128, 16).iter().map(|atom| atom + 128).collect();
+        let body = [1 + random.below(128)];
+        builder.rule(&head, if i < 380 { &body } else { &[] }, &[], &[]);
+    }
+    if ring {
+        for i in 1..=128 {
+            builder.rule(&[i], &[i % 128 + 1], &[], &[]);
+        }
+    }
+    builder.table(if ring { "heads of 16 in 700 rules, a ring" } else { "heads of 16 in 800 rules" })
+}
+
+/// One chain through all atoms but the last, or one cycle, in the order of `step`, and a head of two that is on it at one atom only.
+fn through_all(step: i32, cycle: bool) -> Named {
+    let mut builder = Builder::new(256);
+    let at = |i: i32| i * step % 255 + 1;
+    for i in 0..if cycle { 255 } else { 254 } {
+        builder.rule(&[at(i)], &[at(i + 1)], &[], &[]);
+    }
+    builder.rule(&[at(0), 256], &[], &[], &[]);
+    builder.table(&format!("{} of 255, step {step}", if cycle { "cycle" } else { "chain" }))
+}
+
+/// 255 atoms with arcs to 60 others each, and heads of two that are on the cycles at one atom only, or at both.
+fn dense(seed: u64, refused: bool) -> Named {
+    let mut random = Random(seed);
+    let mut builder = Builder::new(256);
+    for p in 0..240 {
+        let head = 1 + p * 255 / 240;
+        let positive = distinct(&mut random, 255, 60);
+        builder.rule(&[head, 256], &positive, &[], &[]);
+    }
+    if refused {
+        builder.rule(&[1, 2], &[], &[], &[]);
+    }
+    builder.table(if refused { "dense graph of 256, refused" } else { "dense graph of 256" })
+}
+
+/// 64 aggregates of 64 elements over the first 64 atoms, 8 in each of 500 rules; `rings`: positive atoms that make cycles besides.
+fn aggregates_in_rules(seed: u64, rings: bool) -> Named {
+    let mut random = Random(seed);
+    let mut builder = Builder::new(256);
+    for j in 0..64 {
+        let elements: Vec<(i32, i32)> = (1..=64).map(|atom| (random.below(1000), atom)).collect();
+        builder.aggregate(j % 4, j / 4 % 2, random.below(1000), &elements);
+    }
+    for i in 0..500 {
+        let literals = distinct(&mut random, 64, 8);
+        let body = [65 + (i + 1) % 192];
+        builder.rule(&[65 + i % 192], if rings { &body } else { &[] }, &[], &literals);
+    }
+    builder.table(if rings { "64 aggregates in 500 rules, a ring" } else { "64 aggregates in 500 rules" })
+}
+
+/// The tables that are only judged.
+pub fn judged() -> Vec<Named> {
+    vec![
+        full(17),
+        full_wide(5, false),
+        full_wide(5, true),
+        heads_of_16(3, false),
+        heads_of_16(3, true),
+        chain(),
+        through_all(1, false),
+        through_all(254, false),
+        through_all(101, false),
+        through_all(1, true),
+        through_all(254, true),
+        through_all(101, true),
+        dense(9, false),
+        dense(9, true),
+        aggregates(10),
+        aggregates_in_rules(4, false),
+        aggregates_in_rules(4, true),
+    ]
+}
