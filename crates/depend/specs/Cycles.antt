@@ -8,6 +8,7 @@
 --   lowest f k P       the first rule of P that passes f, rules being numbered from k on
 --   cycleOf n P        the refusal of a program over atoms 1 .. n, or nothing
 --   ruleOf P k         rule k, from 1;  Lowest: rule k is the lowest of the program with a property
+-- Reached by public contracts, and so to be believed: `noRule`, `ruleOf`, `Lowest`.
 -- Assumes nothing.
 use mathlib.Core.Bool.{Bool, true, false, not, _&&_}
 use mathlib.Core.List.{List, [], _∷_}

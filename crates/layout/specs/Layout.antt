@@ -7,6 +7,7 @@
 --   rulesFrom t i n    the n rules from i on
 --   programOf t tb     the program of a table whose places are tb
 --   Laid t tb          all places of tb are right, and everything lies within the words and within 01's ranges
+-- Reached by public contracts, and so to be believed: `functionBy`, `comparisonBy`.
 -- Assumes nothing.
 use mathlib.Core.Path.{_≡_}
 use mathlib.Core.Bool.{Bool}

@@ -1,4 +1,5 @@
 -- If-then-else on a test of numbers. Shut, so that goals stay readable; `proofs/Cond.antt` has the two laws of each. Definitions only.
+-- All of them are to be believed.
 -- Assumes nothing.
 use Prim.Native.Nat.{ℕ}
 use mathlib.Core.Bool.{cond}

@@ -1,5 +1,6 @@
 -- The two classes that are refused, and what is accepted, as tests (01, "Meaning"; refusals 8 and 9). Definitions only. They need not be believed:
 -- `proofs/Cycles.antt` shows each test exact, `HeadCycle`, `AggregateCycle` and `AtomsIn` being what is meant.
+-- Reached by public contracts, and so to be believed: `inside`.
 -- Assumes nothing.
 use Prim.Native.Nat.{ℕ, zero, suc}
 use mathlib.Core.Bool.{Bool, not, _&&_, _||_}

@@ -4,6 +4,7 @@
 --   sublists l      the lists that leave out some members of l
 --   isAnswer P l    the atoms l are an answer set: a model, and no sublist that lacks one of them is a model of the reduct
 --   answersOf P n   all answer sets over atoms 1 to n, in 01's order
+-- Reached by public contracts, and so to be believed: `atomsFrom`.
 -- Assumes nothing.
 use mathlib.Core.Bool.{Bool, not, _&&_}
 use mathlib.Core.List.{List, [], _∷_, _++_, map}

@@ -2,6 +2,7 @@
 --   Is b        the test b passes
 --   x ∈ l       x is a member of l
 --   all, any    all members, some member, pass a test;  keep: those that do;  has p l: p is among the numbers l
+-- All of them are to be believed.
 -- Assumes nothing.
 use mathlib.Core.Path.{_≡_}
 use mathlib.Core.Bool.{Bool, true, false, _&&_, _||_}

@@ -1,4 +1,4 @@
--- What to give up when no plan exists (02, request 13). Definitions only: to be believed.
+-- What to give up when no plan exists (02, request 13). Definitions only: to be believed once a public function of request 13 stands on them.
 --   headed             "the rules that have a head"; the others are the constraints
 --   rulesOf P kept     the rules of a trial: those that have a head, and the constraints whose numbers are kept, in table order
 --   Keeps P kept       "offer the constraints in table order; keep each one with which a plan still exists": said with answer sets, no computation
