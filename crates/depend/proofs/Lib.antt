@@ -1,6 +1,9 @@
 -- What the proofs of several functions share, and for callers `Inside` and `Exact`. Assumes nothing.
+pub mod Lists
+pub mod Sets
+pub mod Closing
 pub mod Walk
 pub mod Skipped
-pub mod Naming
+pub mod Inside
+pub mod Graph
 pub mod Exact
-pub mod Tested
