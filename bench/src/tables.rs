@@ -69,6 +69,41 @@ fn chain() -> Named {
     builder.table("chain of 256, worst order")
 }
 
+/// The chain in 1,022 rules, near the limits: besides `p :- p + 1` three rules for each atom that need the next 14 to be true. Every pass defines one
+/// atom, until `:- 1, 2` and `1 :- 2` meet: one propagation of 256 passes that ends in a conflict, and nothing else but judging.
+fn long_propagation() -> Named {
+    let mut builder = Builder::new(256);
+    for i in 1..256 {
+        builder.rule(&[i], &[i + 1], &[], &[]);
+        let next: Vec<i32> = (i + 1..=256.min(i + 14)).collect();
+        for _ in 0..3 {
+            builder.rule(&[i], &next, &[], &[]);
+        }
+    }
+    builder.rule(&[256], &[], &[], &[]);
+    builder.rule(&[], &[1, 2], &[], &[]);
+    builder.table("one propagation, 256 passes")
+}
+
+/// The chain besides 64 aggregates of the 64 atoms that become true last, and 531 constraints with eight of them each, of which two are true only when
+/// all atoms are: one propagation of 256 passes that ends in a conflict, and each pass values 4,248 aggregate literals of 64 elements.
+fn long_propagation_of_aggregates() -> Named {
+    let mut builder = Builder::new(256);
+    let elements: Vec<(i32, i32)> = (1..=64).map(|p| (1, p)).collect();
+    for j in 1..=64 {
+        builder.aggregate(1, 1, if j < 63 { -1 } else { 63 }, &elements);
+    }
+    for i in 1..256 {
+        builder.rule(&[i], &[i + 1], &[], &[]);
+    }
+    builder.rule(&[256], &[], &[], &[]);
+    for i in 0..531 {
+        let first = i % 57 + 1;
+        builder.rule(&[], &[], &[], &[first, first + 1, first + 2, first + 3, first + 4, first + 5, 63, 64]);
+    }
+    builder.table("one propagation, 64 aggregates")
+}
+
 /// Each bird in one of the holes, no two in one: none, by search alone.
 fn pigeons(birds: i32, holes: i32) -> Named {
     let mut builder = Builder::new(birds * holes);
@@ -200,6 +235,8 @@ fn aggregates(seed: u64) -> Named {
 pub fn all() -> Vec<Named> {
     vec![
         chain(),
+        long_propagation(),
+        long_propagation_of_aggregates(),
         pigeons(7, 6),
         pigeons(8, 7),
         night(40, 7),

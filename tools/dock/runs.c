@@ -1,5 +1,5 @@
-/* Runs the gate's tables and texts over the compiled library: runs tables | runs texts | runs whys. Input from standard input, a line for each case to standard
- * output, as the programs that the gate runs print them. Needs no header of the C library, so that the kit's own compiler builds it. */
+/* Runs the gate's tables and texts over the compiled library: runs tables | runs texts | runs whys | runs passes. Input from standard input, a line for each case to standard
+ * output, as the programs that the gate runs print them; of passes, as tools/passes.py tells. Needs no header of the C library, so that the kit's own compiler builds it. */
 #define SAUCEPEBBLY_TYPES_GIVEN
 typedef unsigned long size_t;
 typedef int int32_t;
@@ -219,9 +219,10 @@ static void put_whys(void) {
     put('\n');
 }
 
-static void run_text(size_t n) {
+/* The line of a text: with a report of two places as the text program has it, with one of three the passes in the place of the plan. */
+static void run_text(size_t n, size_t places) {
     static const char *const names[] = {"answer", "none", "limit", "refused"};
-    uint32_t report[2] = {0, 0}, limit = 0, kind = SAUCEPEBBLY_REFUSED;
+    uint32_t report[3] = {0, 0, 0}, limit = 0, kind = SAUCEPEBBLY_REFUSED;
     size_t count;
     report[0] = read_text(n, &limit, &count, &report[1]);
     for (int i = 0; i < 256; i++)
@@ -229,19 +230,19 @@ static void run_text(size_t n) {
     for (int i = 0; i < 512; i++)
         whys[i] = 9;
     if (report[0] == 0)
-        kind = saucepebbly_solve(words, count, limit, plan, 256, report, 2, whys, 512);
+        kind = saucepebbly_solve(words, count, limit, plan, 256, report, places, whys, 512);
     put_text(names[kind]);
-    put_number(report[0]);
-    put_number(report[1]);
-    if (kind == SAUCEPEBBLY_ANSWER) {
+    for (size_t i = 0; i < places; i++)
+        put_number(report[i]);
+    if (places == 2 && kind == SAUCEPEBBLY_ANSWER) {
         put(':');
         put_atoms(plan, 256);
     }
     put('\n');
 }
 
-/* With the rounds and rules after each line, as crates/run_why has them, or without. */
-static void run_texts(int is_why) {
+/* With the rounds and rules after each line, as crates/run_why has them, or without; with reports of so many places. */
+static void run_texts(int is_why, size_t places) {
     for (;;) {
         size_t n = 0;
         for (int i = 0; i < 4; i++) {
@@ -255,7 +256,7 @@ static void run_texts(int is_why) {
             if (i < sizeof bytes)
                 bytes[i] = (uint8_t)b;
         }
-        run_text(n);
+        run_text(n, places);
         if (is_why)
             put_whys();
     }
@@ -263,9 +264,11 @@ static void run_texts(int is_why) {
 
 int main(int argc, char **argv) {
     if (argc == 2 && argv[1][0] == 'w')
-        run_texts(1);
+        run_texts(1, 2);
+    else if (argc == 2 && argv[1][0] == 'p')
+        run_texts(0, 3);
     else if (argc == 2 && argv[1][0] == 't' && argv[1][1] == 'e')
-        run_texts(0);
+        run_texts(0, 2);
     else
         run_tables();
     flush();
