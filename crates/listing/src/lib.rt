@@ -39,7 +39,7 @@ pub struct Told {
 pub const ROW: usize = 256;
 
 // A row's byte at index i: 1 for a true atom of 1 to n, else 0.
-pub fn row_byte(values: &[u8; 256], n: usize, i: usize) -> u8
+fn row_byte(values: &[u8; 256], n: usize, i: usize) -> u8
     requires { ⌜ i < 256 ⌝ }
     ensures { λ r. ⌜ r ≡ rowByte (trueAtoms n (valued (now (values .entry)))) i ⌝ }
 {
@@ -52,7 +52,7 @@ pub fn row_byte(values: &[u8; 256], n: usize, i: usize) -> u8
 }
 
 // "256-byte rows, rest bytes 0": the row that begins at `at` is written whole; no other byte is.
-pub fn write_row(values: &[u8; 256], n: usize, rows: &mut [u8], at: usize)
+fn write_row(values: &[u8; 256], n: usize, rows: &mut [u8], at: usize)
     requires { ⌜ at + 256 ≤ length (now rows) ⌝ }
     ensures { λ _. ⌜ now (rows .exit) ≡ rowPut (trueAtoms n (valued (now (values .entry)))) at 256 (now (rows .entry)) ⌝ }
 {
@@ -66,7 +66,7 @@ pub fn write_row(values: &[u8; 256], n: usize, rows: &mut [u8], at: usize)
 }
 
 // Where the search goes on after a plan: back as after a conflict whose reason is all present levels.
-pub fn after_plan(chosen: &[u16; 256], k: usize) -> Back
+fn after_plan(chosen: &[u16; 256], k: usize) -> Back
     requires { ⌜ (k ≤ 256) × ChosenIn (choices (now chosen) k) k ⌝ }
     ensures { λ r. ⌜ r ≡ backOf (choices (now (chosen .entry)) k) (upTo k) k ⌝ }
 {
@@ -75,7 +75,7 @@ pub fn after_plan(chosen: &[u16; 256], k: usize) -> Back
 }
 
 // What is reported of a search that ended, with so many plans listed.
-pub fn report(kind: Kind, number: usize, found: Found) -> Told
+fn report(kind: Kind, number: usize, found: Found) -> Told
     ensures { λ r. ⌜ r ≡ record { kind = kind; number = number; choices = found .choices; skips = found .skips; passes = found .passes } ⌝ }
 {
     Told {
