@@ -16,7 +16,7 @@ use Rattle.results.specs.declared.Checked.{Checked}
 use Rattle.results.specs.declared.Checked.the-variants as checked
 use Rattle.results.specs.Results.{numberOf, placeOf, Report, reportOf, refusalReport, CheckReport, checkReportOf, refusalCheck}
 
--- the refusal with a number and a place; 0, and 17 to 23, are no refusal's number
+-- the refusal with a number and a place; 0, 18 and 19 are no refusal's number
 abbrev refusalAt : ℕ → ℕ → Refusal
 refusalAt n i =
     getD
@@ -37,15 +37,16 @@ refusalAt n i =
     ∷ refusal.OutsideSubset i
     ∷ refusal.BeyondRange i
     ∷ refusal.ShortBuffer
+    ∷ refusal.PartRow
     ∷ refusal.TooManyWords
     ∷ refusal.TooManyWords
-    ∷ refusal.TooManyWords
-    ∷ refusal.TooManyWords
-    ∷ refusal.TooManyWords
-    ∷ refusal.TooManyWords
-    ∷ refusal.TooManyWords
+    ∷ refusal.PinNumber
+    ∷ refusal.PinTwice
+    ∷ refusal.PinsFull
+    ∷ refusal.NoPin
     ∷ refusal.NamesLost
     ∷ refusal.ShortWords
+    ∷ refusal.ShortList
     ∷ [])
     n
     refusal.TooManyWords
@@ -67,8 +68,14 @@ refusal-back refusal.TooManyBytes = refl
 refusal-back (refusal.OutsideSubset l) = refl
 refusal-back (refusal.BeyondRange l) = refl
 refusal-back refusal.ShortBuffer = refl
+refusal-back refusal.PartRow = refl
+refusal-back refusal.PinNumber = refl
+refusal-back refusal.PinTwice = refl
+refusal-back refusal.PinsFull = refl
+refusal-back refusal.NoPin = refl
 refusal-back refusal.NamesLost = refl
 refusal-back refusal.ShortWords = refl
+refusal-back refusal.ShortList = refl
 
 pub refusal-determined : (f g : Refusal) → numberOf f ≡ numberOf g → placeOf f ≡ placeOf g → f ≡ g
 refusal-determined f g n i = sym (refusal-back f) ∙ ap (λ (k : ℕ). refusalAt k (placeOf f)) n ∙ ap (refusalAt (numberOf g)) i ∙ refusal-back g

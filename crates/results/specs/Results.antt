@@ -31,8 +31,14 @@ numberOf refusal.TooManyBytes = 13
 numberOf (refusal.OutsideSubset l) = 14
 numberOf (refusal.BeyondRange l) = 15
 numberOf refusal.ShortBuffer = 16
+numberOf refusal.PartRow = 17
+numberOf refusal.PinNumber = 20
+numberOf refusal.PinTwice = 21
+numberOf refusal.PinsFull = 22
+numberOf refusal.NoPin = 23
 numberOf refusal.NamesLost = 24
 numberOf refusal.ShortWords = 25
+numberOf refusal.ShortList = 26
 
 abbrev pub placeOf : Refusal → ℕ
 placeOf refusal.TooManyWords = 0
@@ -51,8 +57,14 @@ placeOf refusal.TooManyBytes = 0
 placeOf (refusal.OutsideSubset l) = l
 placeOf (refusal.BeyondRange l) = l
 placeOf refusal.ShortBuffer = 0
+placeOf refusal.PartRow = 0
+placeOf refusal.PinNumber = 0
+placeOf refusal.PinTwice = 0
+placeOf refusal.PinsFull = 0
+placeOf refusal.NoPin = 0
 placeOf refusal.NamesLost = 0
 placeOf refusal.ShortWords = 0
+placeOf refusal.ShortList = 0
 
 -- ---- what a result of solving says: "for a refusal its number and place with counts 0; otherwise the choices and the skips", and the passes (request 11)
 

@@ -37,10 +37,22 @@ pub enum Refusal {
     BeyondRange(usize),
     // 16: the lent text or byte buffer is too short for the whole text.
     ShortBuffer,
+    // 17: list: the buffer's length is no multiple of 256.
+    PartRow,
+    // 20: pin: the atom is 0 or above N.
+    PinNumber,
+    // 21: pin: the atom is pinned already.
+    PinTwice,
+    // 22: pin: there are 64 pins.
+    PinsFull,
+    // 23: a removal with no pin held.
+    NoPin,
     // 24: going back from the stored form while some name is not empty.
     NamesLost,
     // 25: the word buffer is shorter than 16,384 words.
     ShortWords,
+    // 26: give up: the list of dropped rules has fewer than M places.
+    ShortList,
 }
 
 // What is asked with a table: the limit, any unsigned 32-bit number.
@@ -97,8 +109,14 @@ pub fn number(r: Refusal) -> u32
         Refusal::OutsideSubset(_) => 14,
         Refusal::BeyondRange(_) => 15,
         Refusal::ShortBuffer => 16,
+        Refusal::PartRow => 17,
+        Refusal::PinNumber => 20,
+        Refusal::PinTwice => 21,
+        Refusal::PinsFull => 22,
+        Refusal::NoPin => 23,
         Refusal::NamesLost => 24,
         Refusal::ShortWords => 25,
+        Refusal::ShortList => 26,
     }
 }
 
@@ -123,7 +141,13 @@ pub fn place(r: Refusal) -> usize
         Refusal::OutsideSubset(l) => l,
         Refusal::BeyondRange(l) => l,
         Refusal::ShortBuffer => 0,
+        Refusal::PartRow => 0,
+        Refusal::PinNumber => 0,
+        Refusal::PinTwice => 0,
+        Refusal::PinsFull => 0,
+        Refusal::NoPin => 0,
         Refusal::NamesLost => 0,
         Refusal::ShortWords => 0,
+        Refusal::ShortList => 0,
     }
 }

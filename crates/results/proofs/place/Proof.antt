@@ -59,8 +59,26 @@ enum-told-5 c = search needs
 enum-told-6 : tie.Need-enum-told-6
 enum-told-6 c = search needs
 
+enum-told-7 : tie.Need-enum-told-7
+enum-told-7 c = search needs
+
+enum-told-8 : tie.Need-enum-told-8
+enum-told-8 c = search needs
+
+enum-told-9 : tie.Need-enum-told-9
+enum-told-9 c = search needs
+
+enum-told-10 : tie.Need-enum-told-10
+enum-told-10 c = search needs
+
+enum-told-11 : tie.Need-enum-told-11
+enum-told-11 c = search needs
+
+enum-told-12 : tie.Need-enum-told-12
+enum-told-12 c = search needs
+
 returns : tie.Need-returns
-returns c = search needs
+returns c = sym (ap placeOf (c .enum-told .given .1))
 
 returns-2 : tie.Need-returns-2
 returns-2 c = sym (ap placeOf (c .before .r .given .1))
@@ -87,7 +105,7 @@ returns-9 : tie.Need-returns-9
 returns-9 c = sym (ap placeOf (c .before .r8 .given .1))
 
 returns-10 : tie.Need-returns-10
-returns-10 c = search needs
+returns-10 c = sym (ap placeOf (c .enum-told2 .given .1))
 
 returns-11 : tie.Need-returns-11
 returns-11 c = sym (ap placeOf (c .before .r9 .given .1))
@@ -96,7 +114,7 @@ returns-12 : tie.Need-returns-12
 returns-12 c = sym (ap placeOf (c .before .r10 .given .1))
 
 returns-13 : tie.Need-returns-13
-returns-13 c = search needs
+returns-13 c = sym (ap placeOf (c .enum-told3 .given .1))
 
 returns-14 : tie.Need-returns-14
 returns-14 c = sym (ap placeOf (c .before .r11 .given .1))
@@ -105,13 +123,31 @@ returns-15 : tie.Need-returns-15
 returns-15 c = sym (ap placeOf (c .before .r12 .given .1))
 
 returns-16 : tie.Need-returns-16
-returns-16 c = search needs
+returns-16 c = sym (ap placeOf (c .enum-told4 .given .1))
 
 returns-17 : tie.Need-returns-17
-returns-17 c = search needs
+returns-17 c = sym (ap placeOf (c .enum-told5 .given .1))
 
 returns-18 : tie.Need-returns-18
-returns-18 c = search needs
+returns-18 c = sym (ap placeOf (c .enum-told6 .given .1))
+
+returns-19 : tie.Need-returns-19
+returns-19 c = sym (ap placeOf (c .enum-told7 .given .1))
+
+returns-20 : tie.Need-returns-20
+returns-20 c = sym (ap placeOf (c .enum-told8 .given .1))
+
+returns-21 : tie.Need-returns-21
+returns-21 c = sym (ap placeOf (c .enum-told9 .given .1))
+
+returns-22 : tie.Need-returns-22
+returns-22 c = sym (ap placeOf (c .enum-told10 .given .1))
+
+returns-23 : tie.Need-returns-23
+returns-23 c = sym (ap placeOf (c .enum-told11 .given .1))
+
+returns-24 : tie.Need-returns-24
+returns-24 c = sym (ap placeOf (c .enum-told12 .given .1))
 
 pub place-spec : {M : Type 1} → statement M
 place-spec =
@@ -135,6 +171,12 @@ place-spec =
     enum-told-4
     enum-told-5
     enum-told-6
+    enum-told-7
+    enum-told-8
+    enum-told-9
+    enum-told-10
+    enum-told-11
+    enum-told-12
     returns
     returns-2
     returns-3
@@ -152,4 +194,10 @@ place-spec =
     returns-15
     returns-16
     returns-17
-    returns-18)
+    returns-18
+    returns-19
+    returns-20
+    returns-21
+    returns-22
+    returns-23
+    returns-24)
