@@ -7,7 +7,7 @@ ghost use Rattle.layout.specs.Layout.{Members, ruleAt, RuleLies, programOf, Lai
 ghost use Rattle.levels.specs.Levels.{union};
 ghost use Rattle.levels.specs.View.{row, rows};
 ghost use Rattle.depend.specs.Reach.{arcsOf, targets, listed, elements, literals, Elements, Rows};
-use crate::reach::Known;
+use crate::chains::Known;
 use layout::Table;
 
 // A list's atoms joined to a set.
@@ -53,7 +53,7 @@ pub fn with_literals(t: &[i32], tb: Table, l: &[i32], set: [u64; 4]) -> [u64; 4]
     while 0 < i {
         i -= 1;
         let j = words::atom(l, i);
-        let pairs = crate::rules::elements_of(t, tb, j);
+        let pairs = crate::parts::elements_of(t, tb, j);
         let next = with_pairs(pairs, all);
         all = next;
     }

@@ -1,4 +1,4 @@
-// The tests of a rule for a head cycle and for an aggregate cycle, and the lowest rule that passes each. What reaches what is asked of `reach`.
+// The tests of a rule for a head cycle and for an aggregate cycle, and the lowest rule that passes each. What reaches what is asked of `chains`.
 // First, whether there can be a cycle of the kind at all: if not, nothing needs to be known. Meaning: `specs/Cycles.antt`; that these tests leave
 // out no cycle: `proofs/Skipped.antt`.
 ghost use mathlib.Core.Path.{_≡_};
@@ -11,8 +11,8 @@ ghost use Rattle.layout.specs.Layout.{pastAt, posAt, aggsAt, atoms, Members, pa
 ghost use Rattle.depend.specs.Reach.{reach, Elements};
 ghost use Rattle.depend.specs.Cycles.{full, wide, makesArcs, addsArcs, mayCross, mayReturn, crossing, crossed, returning, returned, lowest};
 use crate::Place;
-use crate::reach;
-use crate::reach::Known;
+use crate::chains;
+use crate::chains::Known;
 use layout::Table;
 
 // ---- whether there can be a cycle
@@ -107,8 +107,8 @@ pub fn both_ways(known: &Known, p: usize, q: usize) -> bool
     if p == q {
         return false;
     }
-    if reach::reaches(known, p, q) {
-        return reach::reaches(known, q, p);
+    if chains::reaches(known, p, q) {
+        return chains::reaches(known, q, p);
     }
     false
 }
@@ -156,7 +156,7 @@ pub fn element_reaches(known: &Known, l: &[i32], p: usize) -> bool
         i -= 1;
         let place = 2 * i + 1;
         let q = words::atom(l, place);
-        let hit = reach::reaches(known, q, p);
+        let hit = chains::reaches(known, q, p);
         found = hit | found;
     }
     found
@@ -172,7 +172,7 @@ pub fn literal_reaches(t: &[i32], tb: Table, known: &Known, l: &[i32], p: usize)
     while 0 < i {
         i -= 1;
         let j = words::atom(l, i);
-        let pairs = crate::rules::elements_of(t, tb, j);
+        let pairs = crate::parts::elements_of(t, tb, j);
         let hit = element_reaches(known, pairs, p);
         found = hit | found;
     }

@@ -13,9 +13,9 @@ use layout::Table;
 use results::Refusal;
 
 mod arcs;
+mod chains;
 mod cycles;
-mod reach;
-mod rules;
+mod parts;
 
 // The lowest rule of a kind, from 1, if there is one.
 pub enum Place {
@@ -55,8 +55,8 @@ fn lowest_head(t: &[i32], tb: Table) -> Place
     if !cycles::may_cross(t, tb) {
         return Place::Nowhere;
     }
-    let mut known = reach::nothing();
-    reach::build(t, tb, false, &mut known);
+    let mut known = chains::nothing();
+    chains::build(t, tb, false, &mut known);
     cycles::first_head(t, tb, &known)
 }
 
@@ -68,7 +68,7 @@ fn lowest_aggregate(t: &[i32], tb: Table) -> Place
     if !cycles::may_return(t, tb) {
         return Place::Nowhere;
     }
-    let mut known = reach::nothing();
-    reach::build(t, tb, true, &mut known);
+    let mut known = chains::nothing();
+    chains::build(t, tb, true, &mut known);
     cycles::first_aggregate(t, tb, &known)
 }

@@ -1,4 +1,4 @@
--- `depend::reach::close` meets its contract. The invariant: the table knows the chains with atoms in between of 1 to m, and `left` atoms are still to come. Assumes nothing.
+-- `depend::chains::close` meets its contract. The invariant: the table knows the chains with atoms in between of 1 to m, and `left` atoms are still to come. Assumes nothing.
 use mathlib.Core.Path.{_≡_, ap, _∙_}
 use mathlib.Core.Bool.{Bool, false}
 use Prim.Native.Nat.{ℕ, suc, _+_, _<_}
@@ -7,8 +7,8 @@ use Rattle.levels.specs.View.{rows}
 use Rattle.meaning.specs.Cycles.{via}
 use Rattle.depend.specs.Reach.{reach, joined, Reaches}
 use Rattle.depend.proofs.Closing.{via-first, via-next, via-apart}
-use Rattle.depend.proofs.reach.close.Statement.{statement}
-use Rattle.depend.proofs.reach.close.Tie as tie
+use Rattle.depend.proofs.chains.close.Statement.{statement}
+use Rattle.depend.proofs.chains.close.Tie as tie
 
 abbrev Inv-loop : tie.InvT-loop
 Inv-loop n known₀ m₀ left₀ known m left = (m + left ≡ n) × Reaches known (via (rows known₀) (suc m))

@@ -1,11 +1,11 @@
--- `depend::rules::elements_of` meets its contract. Assumes nothing.
+-- `depend::parts::elements_of` meets its contract. Assumes nothing.
 use borrow.Author.Needs.{needs}
 use mathlib.Core.Path.{ap, _∙_}
 use Prim.Native.Nat.{_-_}
 use native.Mathlib.Omega.{arith}
 use Rattle.layout.specs.Layout.{pairsAt}
-use Rattle.depend.proofs.rules.elements_of.Statement.{statement}
-use Rattle.depend.proofs.rules.elements_of.Tie as tie
+use Rattle.depend.proofs.parts.elements_of.Statement.{statement}
+use Rattle.depend.proofs.parts.elements_of.Tie as tie
 
 sub-place : tie.Need-sub-place
 sub-place c = search needs

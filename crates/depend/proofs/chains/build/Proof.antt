@@ -1,4 +1,4 @@
--- `depend::reach::build` meets its contract. The table is filled with the arcs, then closed. Assumes nothing.
+-- `depend::chains::build` meets its contract. The table is filled with the arcs, then closed. Assumes nothing.
 use borrow.Author.Needs.{needs}
 use mathlib.Core.Path.{_≡_, ap, _∙_, fun-ext}
 use mathlib.Core.Bool.{Bool, false, _||_}
@@ -11,8 +11,8 @@ use Rattle.levels.specs.View.{rows}
 use Rattle.depend.specs.Reach.{arcsOf}
 use Rattle.depend.proofs.Inside.{laid-inside}
 use Rattle.depend.proofs.Graph.{arcs-idle}
-use Rattle.depend.proofs.reach.build.Statement.{statement}
-use Rattle.depend.proofs.reach.build.Tie as tie
+use Rattle.depend.proofs.chains.build.Statement.{statement}
+use Rattle.depend.proofs.chains.build.Tie as tie
 
 fill-requires : tie.Need-fill-requires
 fill-requires c κs = search needs

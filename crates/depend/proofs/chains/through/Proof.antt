@@ -1,4 +1,4 @@
--- `depend::reach::through` meets its contract. The invariant: the rows of atoms 1 to i are joined at m, the others are as they were. Row m is read before the first turn. Assumes nothing.
+-- `depend::chains::through` meets its contract. The invariant: the rows of atoms 1 to i are joined at m, the others are as they were. Row m is read before the first turn. Assumes nothing.
 use mathlib.Core.Path.{_≡_, sym, ap, _∙_}
 use mathlib.Core.Bool.{_&&_, _||_}
 use mathlib.Core.List.{[]}
@@ -11,8 +11,8 @@ use lib.ListN.{length-set}
 use Rattle.meaning.specs.Cond.{ifEq}
 use Rattle.levels.proofs.Laws.{rows-at, rows-suc}
 use Rattle.depend.proofs.Closing.{rows-from-zero, rows-put, partly, partly-none, partly-more, joined-all}
-use Rattle.depend.proofs.reach.through.Statement.{statement}
-use Rattle.depend.proofs.reach.through.Tie as tie
+use Rattle.depend.proofs.chains.through.Statement.{statement}
+use Rattle.depend.proofs.chains.through.Tie as tie
 
 abbrev Inv-loop : tie.InvT-loop
 Inv-loop m n known₀ place beyond i₀ known i =

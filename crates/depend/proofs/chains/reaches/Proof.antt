@@ -1,4 +1,4 @@
--- `depend::reach::reaches` meets its contract. Assumes nothing.
+-- `depend::chains::reaches` meets its contract. Assumes nothing.
 use borrow.Author.Needs.{needs}
 use mathlib.Core.Path.{sym, ap, _∙_}
 use mathlib.Core.Bool.{Bool, _||_}
@@ -7,8 +7,8 @@ use Rattle.levels.specs.Levels.{Levels}
 use Rattle.levels.specs.View.{rows}
 use Rattle.levels.proofs.Laws.{rows-at}
 use Rattle.depend.proofs.Closing.{reach-is}
-use Rattle.depend.proofs.reach.reaches.Statement.{statement}
-use Rattle.depend.proofs.reach.reaches.Tie as tie
+use Rattle.depend.proofs.chains.reaches.Statement.{statement}
+use Rattle.depend.proofs.chains.reaches.Tie as tie
 
 returns : tie.Need-returns
 returns c =

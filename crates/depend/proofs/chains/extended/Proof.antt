@@ -1,12 +1,12 @@
--- `depend::reach::extended` meets its contract. Assumes nothing.
+-- `depend::chains::extended` meets its contract. Assumes nothing.
 use borrow.Author.Needs.{needs}
 use mathlib.Core.Path.{_≡_, refl, sym, ap, _∙_, fun-ext}
 use mathlib.Core.Bool.{Bool, true, false, _&&_, _||_}
 use Prim.Native.Nat.{ℕ}
 use lib.ListN.{set}
 use Rattle.levels.specs.View.{row}
-use Rattle.depend.proofs.reach.extended.Statement.{statement}
-use Rattle.depend.proofs.reach.extended.Tie as tie
+use Rattle.depend.proofs.chains.extended.Statement.{statement}
+use Rattle.depend.proofs.chains.extended.Tie as tie
 
 has-requires : tie.Need-has-requires
 has-requires c κs = search needs
