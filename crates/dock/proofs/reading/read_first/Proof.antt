@@ -21,7 +21,7 @@ returns : tie.Need-returns
 returns c = c .narrowed .ensures ∙ sym (ap readFirst (c .before .before .written .given .1))
 
 returns-2 : tie.Need-returns-2
-returns-2 c = search needs
+returns-2 c = c .number .ensures ∙ sym (ap readFirst (c .before .before .written2 .given .1))
 
 pub read-first-spec : {M : Type 1} → statement M
 read-first-spec =
