@@ -42,9 +42,9 @@ enum {
     SAUCEPEBBLY_NO = 1   /* it is not */
 };
 
-/* What saucepebbly_read_aspif returns; or SAUCEPEBBLY_REFUSED. */
+/* What saucepebbly_read_aspif and saucepebbly_write_aspif return; or SAUCEPEBBLY_REFUSED. */
 enum {
-    SAUCEPEBBLY_WROTE = 0 /* the words are written; report: how many, 0 */
+    SAUCEPEBBLY_WROTE = 0 /* the words, or the text, are written; report: how many words or bytes, 0 */
 };
 
 /* The number of a refusal: report[0] where an entry says SAUCEPEBBLY_REFUSED; report[1] is its place. */
@@ -62,6 +62,7 @@ enum {
     SAUCEPEBBLY_PLAN_BYTE = 11,       /* check only: one of the first N bytes is neither 0 nor 1; its index */
     SAUCEPEBBLY_OUTSIDE_SUBSET = 14,  /* aspif: a line outside the subset, or missing; its number, from 1 */
     SAUCEPEBBLY_BEYOND_RANGE = 15,    /* aspif: a number, list or table beyond the ranges; the line's number, from 1 */
+    SAUCEPEBBLY_SHORT_BUFFER = 16,    /* the buffer is too short for the whole text; place 0 */
     SAUCEPEBBLY_SHORT_WORDS = 25      /* the buffer for words has fewer than 16,384; place 0 */
 };
 
@@ -94,6 +95,12 @@ uint32_t saucepebbly_plain(const int32_t *words, size_t words_len, uint32_t limi
  * 16,384; the rest of it keeps its content, and on a refusal all of it does. A line's number above 4,294,967,295 is reported as that. */
 uint32_t saucepebbly_read_aspif(const uint8_t *text, size_t text_len, int32_t *words, size_t words_len,
                                 uint32_t *report, size_t report_len);
+
+/* Writes a table as a text in the ASP intermediate format, at the front of the buffer; the rest of it keeps its content, and on a refusal all
+ * of it does. A new atom above the table's stands for each aggregate literal in use. The text's answer sets, restricted to the table's atoms,
+ * are the table's, each from exactly one of the text's. Refused as by saucepebbly_solve, without 10; then, if the buffer is too short, by 16. */
+uint32_t saucepebbly_write_aspif(const int32_t *words, size_t words_len, uint8_t *text, size_t text_len,
+                                 uint32_t *report, size_t report_len);
 
 #ifdef __cplusplus
 }

@@ -5,3 +5,4 @@ pub mod Unique
 pub mod Places
 pub mod PlainEntry
 pub mod ReadingEntry
+pub mod WritingEntry

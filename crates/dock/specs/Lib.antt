@@ -3,3 +3,4 @@ pub mod Whys
 pub mod Dock
 pub mod Plain
 pub mod Reading
+pub mod Writing

@@ -15,7 +15,7 @@ abbrev pub readKind : Written → ℕ
 readKind (written.Wrote n) = 0
 readKind (written.Refused f) = 3
 
--- the number of words; or a refusal's number and place
+-- the number of words (of bytes, for the writer); or a refusal's number and place
 abbrev pub readFirst : Written → ℕ
 readFirst (written.Wrote n) = narrow n
 readFirst (written.Refused f) = numberOf f

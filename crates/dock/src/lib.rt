@@ -10,6 +10,7 @@ use results::Solved;
 mod plainly;
 mod reading;
 mod whys;
+mod writing;
 
 // The kind of a result.
 fn kind(solved: Solved) -> u32

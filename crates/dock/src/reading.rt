@@ -6,7 +6,7 @@ use crate::write;
 use results::Written;
 
 // The kind of the result.
-fn read_kind(written: Written) -> u32
+pub fn read_kind(written: Written) -> u32
     ensures { λ r. ⌜ r ≡ readKind written ⌝ }
 {
     match written {
@@ -15,8 +15,8 @@ fn read_kind(written: Written) -> u32
     }
 }
 
-// How many words were written, or the number of a refusal.
-fn read_first(written: Written) -> u32
+// How many words or bytes were written, or the number of a refusal.
+pub fn read_first(written: Written) -> u32
     ensures { λ r. ⌜ r ≡ readFirst written ⌝ }
 {
     match written {
@@ -26,7 +26,7 @@ fn read_first(written: Written) -> u32
 }
 
 // The place of a refusal.
-fn read_second(written: Written) -> u32
+pub fn read_second(written: Written) -> u32
     ensures { λ r. ⌜ r ≡ readSecond written ⌝ }
 {
     match written {
