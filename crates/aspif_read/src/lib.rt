@@ -11,9 +11,9 @@ use crate::lines::line_after;
 use crate::lines::line_end;
 use crate::putting::put;
 use crate::putting::put_section;
+use crate::reader::survey_from;
 use crate::survey::Survey;
 use crate::survey::Totals;
-use crate::survey::survey_lines;
 use aspif_scan::kind::same;
 use results::Refusal;
 use results::Written;
@@ -21,6 +21,7 @@ use results::Written;
 mod judge;
 mod lines;
 mod putting;
+mod reader;
 mod survey;
 
 // The words of a text whose lines from `from` on have these totals, at the front; how many they are.
@@ -47,7 +48,7 @@ pub fn read(text: &[u8], words: &mut [i32]) -> Written
         return Written::Refused(Refusal::OutsideSubset(1));
     }
     let from = line_after(text, end);
-    let found = survey_lines(text, from);
+    let found = survey_from(text, from);
     match found {
         Survey::Outside(k) => Written::Refused(Refusal::OutsideSubset(k)),
         Survey::Beyond(k) => Written::Refused(Refusal::BeyondRange(k)),

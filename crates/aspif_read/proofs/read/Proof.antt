@@ -69,8 +69,8 @@ returns-2 c = reads-outside (c .before .before .before .before .before .before .
 line-after-requires : tie.Need-line-after-requires
 line-after-requires c κs = inside (c .before .before .before .before)
 
-survey-lines-requires : tie.Need-survey-lines-requires
-survey-lines-requires c κs = (omega (arith, c .line-after .ensures), rw (c .line-after .ensures, c .before .before .before .before .before .line-end .ensures) (header-far (c .before .before .before .before .before .before .before .before .args .text .now) (header c)))
+survey-from-requires : tie.Need-survey-from-requires
+survey-from-requires c κs = (omega (arith, c .line-after .ensures), rw (c .line-after .ensures, c .before .before .before .before .before .line-end .ensures) (header-far (c .before .before .before .before .before .before .before .before .args .text .now) (header c)))
 
 enum-known-found : tie.Need-enum-known-found
 enum-known-found c = search needs
@@ -84,14 +84,14 @@ enum-known-found-3 c = search needs
 write-requires : tie.Need-write-requires
 write-requires c κs =
     let a = c .before .before .before .before .before in
-    let e = sym (c .before .before .before .before .survey-lines .ensures) ∙ c .before .before .found3 .given .1 in
+    let e = sym (c .before .before .before .before .survey-from .ensures) ∙ c .before .before .found3 .given .1 in
     (omega (arith, a .line-after .ensures), table-fits _ _ e, few-aggregates _ (short a) _ e)
 
 returns-3 : tie.Need-returns-3
-returns-3 c = reads-outside (c .before .before .before .before .before .before .before .before .before .before .before .before .args .text .now) (c .before .before .before .before .before .before .before .before .before .before .before .before .args .words .now) _ (c .before .before .before .before .before .before .before .before .before .before .if1 .left) (read-is (c .before .before .before .before) ∙ lines-outside _ (short (c .before .before .before .before)) _ (sym (c .before .before .before .survey-lines .ensures) ∙ c .before .found .given .1))
+returns-3 c = reads-outside (c .before .before .before .before .before .before .before .before .before .before .before .before .args .text .now) (c .before .before .before .before .before .before .before .before .before .before .before .before .args .words .now) _ (c .before .before .before .before .before .before .before .before .before .before .if1 .left) (read-is (c .before .before .before .before) ∙ lines-outside _ (short (c .before .before .before .before)) _ (sym (c .before .before .before .survey-from .ensures) ∙ c .before .found .given .1))
 
 returns-4 : tie.Need-returns-4
-returns-4 c = reads-beyond (c .before .before .before .before .before .before .before .before .before .before .before .before .args .text .now) (c .before .before .before .before .before .before .before .before .before .before .before .before .args .words .now) _ (c .before .before .before .before .before .before .before .before .before .before .if1 .left) (read-is (c .before .before .before .before) ∙ lines-beyond _ (short (c .before .before .before .before)) _ (sym (c .before .before .before .survey-lines .ensures) ∙ c .before .found2 .given .1))
+returns-4 c = reads-beyond (c .before .before .before .before .before .before .before .before .before .before .before .before .args .text .now) (c .before .before .before .before .before .before .before .before .before .before .before .before .args .words .now) _ (c .before .before .before .before .before .before .before .before .before .before .if1 .left) (read-is (c .before .before .before .before) ∙ lines-beyond _ (short (c .before .before .before .before)) _ (sym (c .before .before .before .survey-from .ensures) ∙ c .before .found2 .given .1))
 
 same-length : tie.Need-same-length
 same-length c = search needs
@@ -99,7 +99,7 @@ same-length c = search needs
 returns-5 : tie.Need-returns-5
 returns-5 c =
     let a = c .before .before .before .before .before .before .before in
-    let t = lines-table _ (short a) _ (sym (c .before .before .before .before .before .before .survey-lines .ensures) ∙ c .before .before .before .before .found3 .given .1) in
+    let t = lines-table _ (short a) _ (sym (c .before .before .before .before .before .before .survey-from .ensures) ∙ c .before .before .before .before .found3 .given .1) in
     reads-accepted (c .before .before .before .before .before .before .before .before .before .before .before .before .before .before .before .args .text .now) (c .before .before .before .before .before .before .before .before .before .before .before .before .before .before .before .args .words .now) (t .0) _ _ _ _ (c .before .before .before .before .before .before .before .before .before .before .before .before .before .if1 .left) (read-is a ∙ t .1) (t .2) (t .3) (c .before .write .ensures)
 
 pub read-spec : {M : Type 1} → statement M
@@ -115,7 +115,7 @@ read-spec =
     same-requires
     returns-2
     line-after-requires
-    survey-lines-requires
+    survey-from-requires
     enum-known-found
     enum-known-found-2
     enum-known-found-3
