@@ -1,5 +1,5 @@
 #!/bin/sh
-# Builds the C and the Rust example with cc and rustc alone, runs them, and compares what they print.
+# Builds the C and the Rust examples with cc and rustc alone, runs them, and compares what they print.
 set -eu
 cd "$(dirname "$0")/.."
 if [ ! -f target/staticlib/libdock.a ]; then
@@ -11,8 +11,16 @@ if command -v objdump >/dev/null && command -v python3 >/dev/null; then
     PYTHONDONTWRITEBYTECODE=1 python3 tools/probes.py target/staticlib/libdock.a
 fi
 cc -std=c11 -Wall -Wextra -Werror -O2 -I include examples/c/plan.c target/staticlib/libdock.a -o target/examples/plan_c
+cc -std=c11 -Wall -Wextra -Werror -O2 -I include examples/c/aspif.c target/staticlib/libdock.a -o target/examples/aspif
 rustc -O --edition 2021 -D warnings -L target/staticlib -l static=dock examples/rust/plan.rs -o target/examples/plan_rust
 for program in plan_c plan_rust; do
     "target/examples/$program" | diff - examples/expected
     echo "$program: ok"
 done
+{
+    target/examples/aspif read <examples/night.aspif
+    target/examples/aspif write <examples/plan.txt
+    target/examples/aspif write <examples/plan.txt | target/examples/aspif read
+    printf 'asp 1 0 0\n1 1 1 1 0 0\n0\n' | target/examples/aspif read || true
+} | diff - examples/expected-aspif
+echo "aspif: ok"
