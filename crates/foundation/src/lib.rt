@@ -20,6 +20,9 @@ use layout::Table;
 use literals::First;
 use rules::Step;
 
+// Where the candidates stand: a word for each rule. A caller lends it to the test, which writes before it reads.
+pub type Candidates = [u32; Table::RULES];
+
 // The atom that a rule adds, if it adds one.
 pub enum Adds {
     Nothing,
@@ -205,15 +208,14 @@ pub fn walk(t: &[i32], number: usize, list: &mut [u32], mut marks: [u8; 256]) ->
 }
 
 // The atoms that get added: walks repeat until one leaves all candidates.
-pub fn added(t: &[i32], tb: Table, values: &[u8; 256]) -> [u8; 256]
+pub fn added(t: &[i32], tb: Table, values: &[u8; 256], list: &mut Candidates) -> [u8; 256]
     requires { ⌜ Laid (now t) tb × AllDefined (tb .atoms) (valued (now values)) ⌝ }
     ensures { λ r. ⌜ MarksAdded r (programOf (now (t .entry)) tb) (trueAtoms (tb .atoms) (valued (now (values .entry)))) ⌝ }
 {
-    let mut list = [0u32; 1024];
-    let mut number = collect(t, tb, values, &mut list);
+    let mut number = collect(t, tb, values, list);
     let mut marks = [0u8; 256];
     loop {
-        let w = walk(t, number, &mut list, marks);
+        let w = walk(t, number, list, marks);
         let next = w.marks;
         marks = next;
         if w.left == number {
@@ -249,14 +251,23 @@ pub fn all_covered(n: usize, values: &[u8; 256], marks: &[u8; 256]) -> bool
     true
 }
 
-// The foundedness test.
+// The foundedness test. What the list held before does not matter.
+pub fn founded_by(t: &[i32], tb: Table, values: &[u8; 256], list: &mut Candidates) -> bool
+    requires { ⌜ Laid (now t) tb × AllDefined (tb .atoms) (valued (now values)) ⌝ }
+    ensures { λ r. ⌜ r ≡ founded (programOf (now (t .entry)) tb) (tb .atoms) (trueAtoms (tb .atoms) (valued (now (values .entry)))) ⌝ }
+{
+    let marks = added(t, tb, values, list);
+    let n = tb.atoms;
+    all_covered(n, values, &marks)
+}
+
+// The foundedness test with a list of its own.
 pub fn founded(t: &[i32], tb: Table, values: &[u8; 256]) -> bool
     requires { ⌜ Laid (now t) tb × AllDefined (tb .atoms) (valued (now values)) ⌝ }
     ensures { λ r. ⌜ r ≡ founded (programOf (now (t .entry)) tb) (tb .atoms) (trueAtoms (tb .atoms) (valued (now (values .entry)))) ⌝ }
 {
-    let marks = added(t, tb, values);
-    let n = tb.atoms;
-    all_covered(n, values, &marks)
+    let mut list = [0u32; Table::RULES];
+    founded_by(t, tb, values, &mut list)
 }
 
 // Whether each rule holds: with all atoms defined, one that does not hold is in conflict.

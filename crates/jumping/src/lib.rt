@@ -6,6 +6,7 @@ ghost use Rattle.layout.specs.Layout.{Laid, programOf};
 ghost use Rattle.heads.specs.Heads.{Listed};
 ghost use Rattle.search.specs.Base.{base};
 ghost use Rattle.jumping.specs.Jumping.{Ready, Searches, Solves};
+use foundation::Candidates;
 use heads::Lists;
 use interpretation::Interpretation;
 use layout::Table;
@@ -28,6 +29,7 @@ pub fn search_by(
     limit: u32,
     from: Start,
     rows0: [[u64; 4]; 256],
+    candidates: &mut Candidates,
 ) -> Halt
     requires { ⌜ Laid (now t) tb × Listed (now t) tb (now lists) × Ready (tb .atoms) limit from ⌝ }
     ensures { λ r. ⌜ Searches (base (programOf (now (t .entry)) tb) (tb .atoms)) limit from rows0 r ⌝ }
@@ -121,7 +123,7 @@ pub fn search_by(
             made += 1;
         };
         most = turns::greater(most, made);
-        let turn = turns::decide(t, tb, out, &it.values, choices, limit);
+        let turn = turns::decide(t, tb, out, &it.values, choices, limit, candidates);
         match turn {
             Turn::Answer(spent) => {
                 choices += spent;
@@ -183,13 +185,18 @@ pub fn search_by(
     }
 }
 
-// The search over an accepted table from its start: the lists of its rules are made once.
-pub fn search(t: &[i32], tb: Table, limit: u32) -> Found
+// The search over an accepted table from its start: the lists of its rules are made once. What the lent arrays held before does not matter.
+pub fn search_with(
+    t: &[i32],
+    tb: Table,
+    limit: u32,
+    lists: &mut Lists,
+    candidates: &mut Candidates,
+) -> Found
     requires { ⌜ Laid (now t) tb ⌝ }
     ensures { λ r. ⌜ Solves (base (programOf (now (t .entry)) tb) (tb .atoms)) limit r ⌝ }
 {
-    let mut lists = [0u16; heads::SIZE];
-    heads::fill(t, tb, &mut lists);
+    heads::fill(t, tb, lists);
     let it = Interpretation::start();
     let from = Start {
         it,
@@ -198,6 +205,6 @@ pub fn search(t: &[i32], tb: Table, limit: u32) -> Found
         passes: 0,
     };
     let reasons = levels::no_rows();
-    let halt = search_by(t, tb, &lists, limit, from, reasons);
+    let halt = search_by(t, tb, lists, limit, from, reasons, candidates);
     halt.found
 }

@@ -10,6 +10,7 @@ ghost use Rattle.interpretation.specs.View.{choices, found, valued};
 ghost use Rattle.layout.specs.Layout.{Laid, programOf};
 ghost use Rattle.search.specs.Base.{verdictOf};
 ghost use Rattle.turns.specs.Turns.{testedOf, turnOf, blamed, ChosenIn, backOf};
+use foundation::Candidates;
 use interpretation::Choice;
 use layout::Table;
 use outcome::Outcome;
@@ -60,11 +61,11 @@ pub fn lowest_undefined(values: &[u8; 256], n: usize) -> Choice
 }
 
 // The final test: foundedness, which spends no choices.
-pub fn test(t: &[i32], tb: Table, values: &[u8; 256]) -> Tested
+pub fn test(t: &[i32], tb: Table, values: &[u8; 256], candidates: &mut Candidates) -> Tested
     requires { ⌜ Laid (now t) tb × AllDefined (tb .atoms) (valued (now values)) ⌝ }
     ensures { λ r. ⌜ testedOf r ≡ verdictOf (founded (programOf (now (t .entry)) tb) (tb .atoms) (trueAtoms (tb .atoms) (valued (now (values .entry))))) ⌝ }
 {
-    if foundation::founded(t, tb, values) {
+    if foundation::founded_by(t, tb, values, candidates) {
         return Tested::Passed(0);
     }
     Tested::Failed(0)
@@ -78,6 +79,7 @@ pub fn decide(
     values: &[u8; 256],
     choices: u32,
     limit: u32,
+    candidates: &mut Candidates,
 ) -> Turn
     requires { ⌜ Laid (now t) tb × (choices ≤ limit) ⌝ }
     ensures { λ r. ⌜ r ≡ turnOf (limit - choices) out (lowest (valued (now (values .entry))) (tb .atoms)) (verdictOf (founded (programOf (now (t .entry)) tb) (tb .atoms) (trueAtoms (tb .atoms) (valued (now (values .entry)))))) (ltb choices limit) ⌝ }
@@ -96,7 +98,7 @@ pub fn decide(
                 }
                 Choice::Nothing => {
                     let left = limit - choices;
-                    let tested = test(t, tb, values);
+                    let tested = test(t, tb, values, candidates);
                     match tested {
                         Tested::Passed(spent) => Turn::Answer(spent),
                         Tested::Failed(spent) => Turn::Conflict(spent),

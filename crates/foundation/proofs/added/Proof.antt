@@ -40,19 +40,16 @@ program s = programOf (s .args .t .now) (s .args .tb)
 abbrev inside : (s : tie.Start Inv-loop μ-loop) → AtomsIn (s .args .tb .atoms) (program s)
 inside s = atoms-in (s .args .t .now) (s .args .tb) (s .pre .0)
 
-slice-aggregate-collect : tie.Need-slice-aggregate-collect Inv-loop μ-loop
-slice-aggregate-collect c = search needs
-
 collect-requires : tie.Need-collect-requires Inv-loop μ-loop
 collect-requires c κs = (c .before .pre .0, search needs)
 
 loop-holds : tie.Need-loop-holds Inv-loop μ-loop
-loop-holds c = let e = c .before .collect .ensures in (e .few, e .sized, λ n D P A b. b)
+loop-holds c = let e = c .collect .ensures in (e .few, e .sized, λ n D P A b. b)
 
 -- ---- between two walks
 
 abbrev start : tie.At-loop Inv-loop μ-loop → tie.Start Inv-loop μ-loop
-start b = b .before .before .before .before
+start b = b .before .before .before
 
 abbrev candidates : tie.At-loop Inv-loop μ-loop → List ℕ
 candidates b = take (b .loop .number) (b .loop .list)
@@ -70,11 +67,8 @@ between b =
     let s = start b in
     let t = s .args .t .now in
     b .loop .inv .2 (s .args .tb .atoms) (s .pre .1) (program s) (inside s)
-    (subst (Between (s .args .tb .atoms) (cell s) (s .pre .1) (program s) (inside s) t _) (sym (collected (b .before .before)))
+    (subst (Between (s .args .tb .atoms) (cell s) (s .pre .1) (program s) (inside s) t _) (sym (collected (b .before)))
     (between-start t (s .args .tb) (s .pre .0) (cell s) (s .pre .1) _ (marked-none 256)))
-
-slice-aggregate-walk : tie.Need-slice-aggregate-walk Inv-loop μ-loop
-slice-aggregate-walk c = search needs
 
 walk-requires : tie.Need-walk-requires Inv-loop μ-loop
 walk-requires c κs =
@@ -100,7 +94,7 @@ left w = w .walk .ensures .1 .number
 
 returns : tie.Need-returns Inv-loop μ-loop
 returns c =
-    let w = c .before .before .before .before in
+    let w = c .before .before .before in
     let b = w .before .before in
     let s = start b in
     let X = trueAtoms (s .args .tb .atoms) (cell s) in
@@ -110,14 +104,14 @@ returns c =
 
 loop-less : tie.Need-loop-less Inv-loop μ-loop
 loop-less c =
-    let w = c .before .before .before .before in
+    let w = c .before .before .before in
     let b = w .before .before in
     let n = c .if1 .left in
     omega (arith, n, left-fewer (start b .args .t .now) (candidates b) (marked (b .loop .marks)), left w, counted b)
 
 loop-again : tie.Need-loop-again Inv-loop μ-loop
 loop-again c =
-    let w = c .before .before .before .before in
+    let w = c .before .before .before in
     let b = w .before .before in
     let t = start b .args .t .now in
     let a = cell (start b) in
@@ -130,4 +124,4 @@ loop-again c =
     )
 
 pub added-spec : {M : Type 1} → statement M
-added-spec = tie.close (tie.spec Inv-loop μ-loop slice-aggregate-collect collect-requires loop-holds slice-aggregate-walk walk-requires returns loop-less loop-again)
+added-spec = tie.close (tie.spec Inv-loop μ-loop collect-requires loop-holds walk-requires returns loop-less loop-again)

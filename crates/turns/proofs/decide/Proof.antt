@@ -49,12 +49,12 @@ chosen c =
 whole : (c : tie.After-enum-told3) → let s = c .before .before .before .before .before in atom s ≡ none
 whole c = sym (c .before .before .lowest-undefined .ensures) ∙ ap found (c .enum-told3 .given .1)
 
-tested : (c : tie.After-test) (x : Tested) → testedOf (c .test .result) ≡ x → let s = c .before .before .before .before .before .before in
+tested : (c : tie.After-test) (x : Tested) → testedOf (c .test .result) ≡ x → let s = c .before .before .before .before .before .before .before in
     turnOf (left s) (s .args .out) (atom s) (tests s) (more s) ≡ turnOf (left s) O.Settled none x (more s)
 tested c x e =
-    let l = c .before .before .before in
+    let l = c .before .before .before .before in
     let s = l .before .before .before in
-    settled (l .before) ∙ ap (λ (x : Option ℕ). turnOf (left s) O.Settled x (tests s) (more s)) (whole (c .before))
+    settled (l .before) ∙ ap (λ (x : Option ℕ). turnOf (left s) O.Settled x (tests s) (more s)) (whole (c .before .before))
     ∙ ap (λ (y : Tested). turnOf (left s) O.Settled none y (more s)) (sym (c .test .ensures) ∙ e)
 
 enum-told : tie.Need-enum-told
@@ -83,8 +83,8 @@ sub-left c = search needs
 
 test-requires : tie.Need-test-requires
 test-requires c κs =
-    let s = c .before .before .before .before .before in
-    (s .pre .0, lowest-none (valued (s .args .values .now)) (s .args .tb .atoms) (whole c))
+    let s = c .before .before .before .before .before .before in
+    (s .pre .0, lowest-none (valued (s .args .values .now)) (s .args .tb .atoms) (whole (c .before)))
 
 enum-known-tested : tie.Need-enum-known-tested
 enum-known-tested c = search needs
@@ -96,7 +96,7 @@ enum-told-4 : tie.Need-enum-told-4
 enum-told-4 c = search needs
 
 returns-2 : tie.Need-returns-2
-returns-2 c = search needs
+returns-2 c = let s = c .before .before in sym (ap (λ (x : Outcome). turnOf (left s) x (atom s) (tests s) (more s)) (c .enum-told .given .1))
 
 returns-3 : tie.Need-returns-3
 returns-3 c =

@@ -1,4 +1,4 @@
--- `foundation::founded` meets its contract: "All true atoms added: answer." Assumes nothing.
+-- `foundation::founded_by` meets its contract: "All true atoms added: answer." Assumes nothing.
 use borrow.Author.Needs.{needs}
 use mathlib.Core.Path.{_≡_, _∙_}
 use Rattle.interpretation.specs.View.{valued}
@@ -6,8 +6,8 @@ use Rattle.layout.specs.Layout.{programOf}
 use Rattle.layout.proofs.Inside.{atoms-in}
 use Rattle.foundation.specs.Walk.{marked}
 use Rattle.foundation.proofs.Walks.{covered}
-use Rattle.foundation.proofs.founded.Statement.{statement}
-use Rattle.foundation.proofs.founded.Tie as tie
+use Rattle.foundation.proofs.founded_by.Statement.{statement}
+use Rattle.foundation.proofs.founded_by.Tie as tie
 
 added-requires : tie.Need-added-requires
 added-requires c κs = search needs
@@ -18,9 +18,9 @@ all-covered-requires c κs = search needs
 returns : tie.Need-returns
 returns c =
     let w = c .before .before in
-    let s = w .before in
+    let s = w .before .before in
     c .all-covered .ensures
     ∙ covered (s .args .tb .atoms) (valued (s .args .values .now)) (s .pre .1) (programOf (s .args .t .now) (s .args .tb)) (atoms-in (s .args .t .now) (s .args .tb) (s .pre .0)) (marked (w .added .result)) (w .added .ensures)
 
-pub founded-spec : {M : Type 1} → statement M
-founded-spec = tie.close (tie.spec added-requires all-covered-requires returns)
+pub founded-by-spec : {M : Type 1} → statement M
+founded-by-spec = tie.close (tie.spec added-requires all-covered-requires returns)

@@ -1,4 +1,4 @@
--- `jumping::search` meets its contract: the start of the defined search is the empty interpretation with no reasons. Assumes nothing.
+-- `jumping::search_with` meets its contract: the start of the defined search is the empty interpretation with no reasons. Assumes nothing.
 use borrow.Author.Needs.{needs}
 use mathlib.Core.Path.{_≡_, sym, ap, subst}
 use mathlib.Core.List.{[]}
@@ -12,8 +12,8 @@ use Rattle.search.specs.Base.{base}
 use Rattle.jumping.specs.Jumping.{Ordered}
 use Rattle.jumping.proofs.Ordered.{ordered-start}
 use Rattle.jumping.proofs.Leading.{solves-by}
-use Rattle.jumping.proofs.search.Statement.{statement}
-use Rattle.jumping.proofs.search.Tie as tie
+use Rattle.jumping.proofs.search_with.Statement.{statement}
+use Rattle.jumping.proofs.search_with.Tie as tie
 
 slice-aggregate-fill : tie.Need-slice-aggregate-fill
 slice-aggregate-fill c = search needs
@@ -45,5 +45,5 @@ returns c =
     let f : record { interpretation = view (i .start .result); reason = rows (n .no-rows .result); choices = 0; skips = 0; passes = 0; skipped = [] } ≡ start P = λ j. record { interpretation = i .start .ensures j; reason = n .no-rows .ensures j; choices = 0; skips = 0; passes = 0; skipped = [] } in
     solves-by P (a .limit) _ (r .result) f (r .ensures [])
 
-pub search-spec : {M : Type 1} → statement M
-search-spec = tie.close (tie.spec slice-aggregate-fill fill-requires start-requires no-rows-requires search-by-requires returns)
+pub search-with-spec : {M : Type 1} → statement M
+search-with-spec = tie.close (tie.spec slice-aggregate-fill fill-requires start-requires no-rows-requires search-by-requires returns)
