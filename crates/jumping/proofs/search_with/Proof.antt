@@ -15,9 +15,6 @@ use Rattle.jumping.proofs.Leading.{solves-by}
 use Rattle.jumping.proofs.search_with.Statement.{statement}
 use Rattle.jumping.proofs.search_with.Tie as tie
 
-slice-aggregate-fill : tie.Need-slice-aggregate-fill
-slice-aggregate-fill c = search needs
-
 fill-requires : tie.Need-fill-requires
 fill-requires c κs = (c .before .pre, search needs)
 
@@ -29,21 +26,21 @@ no-rows-requires c κs = search needs
 
 search-by-requires : tie.Need-search-by-requires
 search-by-requires c κs =
-    let i = c .before .before in
-    let s = i .before .before .before .before in
+    let i = c .before .before .before in
+    let s = i .before .before .before in
     let e = i .start .ensures in
     let d : i .start .result .depth ≡ 0 = ap (λ (x : Interpretation). x .level) e in
-    (s .pre, i .before .before .fill .ensures, record { ordered = subst (Ordered (s .args .tb .atoms)) (sym e) (ordered-start (s .args .tb .atoms)); paid = omega (arith, d); few = omega arith })
+    (s .pre, i .before .fill .ensures, record { ordered = subst (Ordered (s .args .tb .atoms)) (sym e) (ordered-start (s .args .tb .atoms)); paid = omega (arith, d); few = omega arith })
 
 returns : tie.Need-returns
 returns c =
     let r = c .before .search-by in
-    let n = c .before .before .before in
+    let n = c .before .before .before .before in
     let i = n .before in
-    let a = i .before .before .before .before .args in
+    let a = i .before .before .before .args in
     let P = base (programOf (a .t .now) (a .tb)) (a .tb .atoms) in
     let f : record { interpretation = view (i .start .result); reason = rows (n .no-rows .result); choices = 0; skips = 0; passes = 0; skipped = [] } ≡ start P = λ j. record { interpretation = i .start .ensures j; reason = n .no-rows .ensures j; choices = 0; skips = 0; passes = 0; skipped = [] } in
     solves-by P (a .limit) _ (r .result) f (r .ensures [])
 
 pub search-with-spec : {M : Type 1} → statement M
-search-with-spec = tie.close (tie.spec slice-aggregate-fill fill-requires start-requires no-rows-requires search-by-requires returns)
+search-with-spec = tie.close (tie.spec fill-requires start-requires no-rows-requires search-by-requires returns)

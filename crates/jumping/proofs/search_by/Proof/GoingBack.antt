@@ -23,11 +23,11 @@ use Rattle.jumping.proofs.Turns.{conflicts, led, goes-back, back-end, b
 use Rattle.jumping.proofs.search_by.Tie as tie
 use Rattle.jumping.proofs.search_by.Proof.Loops.{Of, config, turnAt, start}
 use Rattle.jumping.proofs.search_by.Proof.Passes.{long}
-use Rattle.jumping.proofs.search_by.Proof.Turned.{ordered, depth, programAt, problemAt, began, reached, turned, decides, spends}
+use Rattle.jumping.proofs.search_by.Proof.Turned.{settledAt, ordered, depth, programAt, problemAt, began, reached, turned, decides, spends}
 
 -- from the conflict, and from where it leads: the end of its propagation
 abbrev greaterAt : Of tie.After-turn4 → Of tie.After-greater
-greaterAt c = c .before .before .before .before .before
+greaterAt c = settledAt (c .before .before)
 
 abbrev conflictAt : Of tie.After-go-back → Of tie.After-turn4
 conflictAt c = c .before .before .before .before .before

@@ -34,47 +34,47 @@ abbrev pub config : Interpretation → List (List ℕ) → ℕ → ℕ → ℕ �
 config it reasons choices skips most skipped = record { interpretation = view it; reason = rows reasons; choices = choices; skips = skips; passes = most; skipped = skipped }
 
 abbrev pub Inv-rules : tie.InvT-rules
-Inv-rules t tb lists limit it₀ reasons₀ choices skips most n first end why₀ made changed₀ r₀ it reasons why changed r =
+Inv-rules t tb lists limit candidates it₀ reasons₀ choices skips most n first end why₀ made changed₀ r₀ it reasons why changed r =
     (first ≤ r) × (length reasons ≡ 256) × Kept (view it₀) (view it)
     × (rulePass (rulesAt t lists r end) (work it reasons changed) ≡ rulePass (programOf t tb) (work it₀ reasons₀ false))
 
 abbrev pub μ-rules : tie.MeasureT-rules
-μ-rules t tb lists limit it₀ reasons₀ choices skips most n first end why₀ made changed₀ r₀ it reasons why changed r = end - r
+μ-rules t tb lists limit candidates it₀ reasons₀ choices skips most n first end why₀ made changed₀ r₀ it reasons why changed r = end - r
 
 -- step e's sets at the rule at `place`: what it makes of the state at hand is what it makes of the first one
 abbrev pub Inv-sets : tie.InvT-sets
-Inv-sets t tb lists limit it₀ reasons₀ choices skips most n first end why made changed r p place whole it reasons =
+Inv-sets t tb lists limit candidates it₀ reasons₀ choices skips most n first end why made changed r p place whole it reasons =
     (length reasons ≡ 256) × Kept (view it₀) (view it)
     × (stepE (some (ruleAt t place)) (row whole) (work it reasons true) ≡ stepE (some (ruleAt t place)) (row whole) (work it₀ reasons₀ true))
 
 abbrev pub μ-sets : tie.MeasureT-sets
-μ-sets t tb lists limit it₀ reasons₀ choices skips most n first end why made changed r p place whole it reasons = number (tb .atoms) (missing (cells (it .values) (it .records)))
+μ-sets t tb lists limit candidates it₀ reasons₀ choices skips most n first end why made changed r p place whole it reasons = number (tb .atoms) (missing (cells (it .values) (it .records)))
 
 abbrev pub Inv-atoms : tie.InvT-atoms
-Inv-atoms t tb lists limit it₀ reasons₀ choices skips most n first end why₀ made changed₀ r p₀ it reasons why changed p =
+Inv-atoms t tb lists limit candidates it₀ reasons₀ choices skips most n first end why₀ made changed₀ r p₀ it reasons why changed p =
     (1 ≤ p) × (p ≤ suc (tb .atoms)) × (length reasons ≡ 256) × Kept (view it₀) (view it)
     × (atomPass (programOf t tb) (suc (tb .atoms) - p) p (work it reasons changed) ≡ atomPass (programOf t tb) (tb .atoms) 1 (work it₀ reasons₀ changed₀))
 
 abbrev pub μ-atoms : tie.MeasureT-atoms
-μ-atoms t tb lists limit it₀ reasons₀ choices skips most n first end why₀ made changed₀ r p₀ it reasons why changed p = suc (tb .atoms) - p
+μ-atoms t tb lists limit candidates it₀ reasons₀ choices skips most n first end why₀ made changed₀ r p₀ it reasons why changed p = suc (tb .atoms) - p
 
 abbrev pub Inv-passes : tie.InvT-passes
-Inv-passes t tb lists limit it₀ reasons₀ choices skips most n first end why₀ made₀ it reasons why made =
+Inv-passes t tb lists limit candidates it₀ reasons₀ choices skips most n first end why₀ made₀ it reasons why made =
     (length reasons ≡ 256) × Kept (view it₀) (view it)
     × ((f : ℕ) × (b : Bool) × (number (tb .atoms) (missing (cells (it .values) (it .records))) < f) × (made + f ≡ suc (suc (tb .atoms)))
     × (passes (programOf t tb) (tb .atoms) f (work it reasons b) ≡ passes (programOf t tb) (tb .atoms) (suc (tb .atoms)) (work it₀ reasons₀ false))
     × (made + passesMade (programOf t tb) (tb .atoms) f (work it reasons b) ≡ suc (passesMade (programOf t tb) (tb .atoms) (suc (tb .atoms)) (work it₀ reasons₀ false))))
 
 abbrev pub μ-passes : tie.MeasureT-passes
-μ-passes t tb lists limit it₀ reasons₀ choices skips most n first end why₀ made₀ it reasons why made = number (tb .atoms) (missing (cells (it .values) (it .records)))
+μ-passes t tb lists limit candidates it₀ reasons₀ choices skips most n first end why₀ made₀ it reasons why made = number (tb .atoms) (missing (cells (it .values) (it .records)))
 
 abbrev pub Inv-turns : tie.InvT-turns
-Inv-turns t tb lists limit it₀ reasons₀ choices₀ skips₀ most₀ n first end it reasons choices skips most =
+Inv-turns t tb lists limit candidates₀ it₀ reasons₀ choices₀ skips₀ most₀ n first end candidates it reasons choices skips most =
     Ordered (tb .atoms) (view it) × (skips + it .depth ≤ choices) × (choices ≤ limit) × (length reasons ≡ 256)
     × ((s : List Branch) → (g : List Branch) × Led (problem t tb) limit (config it₀ reasons₀ choices₀ skips₀ most₀ s) (config it reasons choices skips most g))
 
 abbrev pub μ-turns : tie.MeasureT-turns
-μ-turns t tb lists limit it₀ reasons₀ choices₀ skips₀ most₀ n first end it reasons choices skips most = (limit - choices) * suc (tb .atoms) + it .depth
+μ-turns t tb lists limit candidates₀ it₀ reasons₀ choices₀ skips₀ most₀ n first end candidates it reasons choices skips most = (limit - choices) * suc (tb .atoms) + it .depth
 
 -- a place or a need of `search_by`, with these loops
 abbrev pub Of : (tie.InvT-rules → tie.MeasureT-rules → tie.InvT-sets → tie.MeasureT-sets → tie.InvT-atoms → tie.MeasureT-atoms → tie.InvT-passes → tie.MeasureT-passes → tie.InvT-turns → tie.MeasureT-turns → Type 0) → Type 0
