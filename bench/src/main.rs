@@ -12,6 +12,8 @@ mod stack;
 mod tables;
 
 use baseline::{Approved, Refusal, Settings, Solved};
+#[cfg(dock)]
+use std::cell::RefCell;
 use std::hint::black_box;
 use std::time::{Duration, Instant};
 
@@ -50,7 +52,11 @@ fn approve_report(approved: Approved) -> (u32, [u32; 2]) {
 fn solvers<'a>() -> Vec<(&'static str, Call<'a>)> {
     let mut calls: Vec<(&'static str, Call)> = Vec::new();
     #[cfg(dock)]
-    calls.push(("library", Box::new(|words, plan| dock::solve(words, u32::MAX, plan))));
+    {
+        let memory = RefCell::new(dock::Memory::new());
+        let call = move |words: &[i32], plan: &mut [u8]| dock::solve(words, u32::MAX, plan, &mut memory.borrow_mut());
+        calls.push(("library", Box::new(call)));
+    }
     calls.push(("Rust, walk", baseline_call(false)));
     calls.push(("Rust, lists", baseline_call(true)));
     calls
@@ -59,7 +65,11 @@ fn solvers<'a>() -> Vec<(&'static str, Call<'a>)> {
 fn approvers<'a>() -> Vec<(&'static str, Call<'a>)> {
     let mut calls: Vec<(&'static str, Call)> = Vec::new();
     #[cfg(dock)]
-    calls.push(("library", Box::new(|words, plan| dock::approve(words, plan))));
+    {
+        let memory = RefCell::new(dock::Memory::new());
+        let call = move |words: &[i32], plan: &mut [u8]| dock::approve(words, plan, &mut memory.borrow_mut());
+        calls.push(("library", Box::new(call)));
+    }
     calls.push(("Rust", Box::new(|words, plan| approve_report(baseline::approve(words, plan)))));
     calls
 }

@@ -33,16 +33,24 @@ enum Call<'a> {
     Judge(&'a [i32]),
 }
 
+/// A call, and where the lent memory is, which is not on the painted stack.
+struct Task<'a> {
+    call: Call<'a>,
+    memory: *mut dock::Memory,
+}
+
 extern "C" fn run(argument: *mut c_void) -> *mut c_void {
-    // The pointer is to the caller's Call, which outlives the thread.
+    // The pointers are to the caller's Task and to its memory, which outlive the thread.
+    let task = unsafe { &*(argument as *const Task) };
+    let memory = unsafe { &mut *task.memory };
     let mut plan = [0; 256];
-    match unsafe { &*(argument as *const Call) } {
+    match task.call {
         Call::Nothing => {}
-        Call::Solve(words) => drop(dock::solve(words, u32::MAX, &mut plan)),
-        Call::Approve(words) => drop(dock::approve(words, &plan)),
+        Call::Solve(words) => drop(dock::solve(words, u32::MAX, &mut plan, memory)),
+        Call::Approve(words) => drop(dock::approve(words, &plan, memory)),
         Call::Judge(words) => {
             plan[0] = 2;
-            drop(dock::approve(words, &plan))
+            drop(dock::approve(words, &plan, memory))
         }
     }
     std::ptr::null_mut()
@@ -52,13 +60,15 @@ extern "C" fn run(argument: *mut c_void) -> *mut c_void {
 fn overwritten(call: Call) -> usize {
     let mut stack = vec![Page([PAINT; 512]); SIZE / 4096];
     let start = stack.as_mut_ptr();
+    let mut memory = dock::Memory::new();
+    let task = Task { call, memory: &mut *memory };
     // The stack outlives the thread, which is joined here; only after that is it read.
     unsafe {
         let mut attributes = Attributes([0; 16]);
         let mut thread = 0;
         assert_eq!(pthread_attr_init(&mut attributes), 0);
         assert_eq!(pthread_attr_setstack(&mut attributes, start as *mut c_void, SIZE), 0);
-        let argument = &call as *const Call as *mut c_void;
+        let argument = &task as *const Task as *mut c_void;
         assert_eq!(pthread_create(&mut thread, &attributes, run, argument), 0);
         assert_eq!(pthread_join(thread, std::ptr::null_mut()), 0);
         let words = std::slice::from_raw_parts(start as *const u64, SIZE / 8);
@@ -77,7 +87,7 @@ pub fn print_peaks(tables: &[tables::Named]) {
 }
 
 pub fn print_judging(tables: &[tables::Named]) {
-    println!("\npeak stack of judging alone, bytes, the lists of rules by head among them");
+    println!("\npeak stack of judging alone, bytes, beside the lent lists");
     let own = overwritten(Call::Nothing);
     for table in tables {
         println!("{:36} {:>7}", table.name, overwritten(Call::Judge(&table.words)) - own);

@@ -26,21 +26,15 @@ use Rattle.depend.specs.declared.Place.{Place}
 use Rattle.depend.specs.declared.Place.the-variants.{Nowhere, At}
 use Rattle.depend.specs.declared.Cycle.{Cycle}
 use Rattle.depend.specs.declared.Cycle.the-variants.{Nothing, Refused}
-use Rattle.depend.specs.Reach.{arcsOf, reach, Reaches}
+use Rattle.reach.specs.Arcs.{arcsOf}
 use Rattle.depend.specs.Cycles.{orLater, lowest, eighth, ninth, cycleOf, noRule, ruleOf, Lowest}
-use Rattle.depend.proofs.Inside.{below, laid-inside}
-use Rattle.depend.proofs.Graph.{arcs-low}
+use Rattle.reach.proofs.Inside.{below, laid-inside}
+use Rattle.reach.proofs.Graph.{arcs-low}
 
 -- ---- reaching
 
 pub reaches↔chain : (added : Bool) (n : ℕ) (P : Program) → AtomsIn n P → (p q : ℕ) → Is (via (arcsOf added P) (suc n) p q) ↔ Chain (arcsOf added P) p q
 reaches↔chain added n P A p q = (via-chain (arcsOf added P) (suc n) p q, chain-via (arcsOf added P) (suc n) (arcs-low added n P A))
-
--- the same of a table that `build` filled: what `reaches` answers
-pub known↔chain : (added : Bool) (n : ℕ) (P : Program) (x : List (List ℕ)) → AtomsIn n P → Reaches x (via (arcsOf added P) (suc n))
-    → (p q : ℕ) → Is (reach x p q) ↔ Chain (arcsOf added P) p q
-known↔chain added n P x A k p q =
-    subst (λ (X : ℕ → ℕ → Bool). Is (X p q) ↔ Chain (arcsOf added P) p q) (sym (k .says)) (reaches↔chain added n P A p q)
 
 -- ---- the lowest rule of a test
 
@@ -112,7 +106,7 @@ module _ (P : Program) (f : Rule → Bool) (Test : Rule → Type 0) (exact : (r 
       at l Nowhere w = absurd (none-e w (ruleOf P k) (lowest-in k l) (l .here))
       at l (At j) w = ap At (one j k (place-e j w) l)
 
-  lowest-none : (lowest f 1 P ≡ Nowhere) ↔ ((r : Rule) → r ∈ P → Test r → ⊥)
+  pub lowest-none : (lowest f 1 P ≡ Nowhere) ↔ ((r : Rule) → r ∈ P → Test r → ⊥)
   lowest-none = (λ e. none-e (subst (Found f 1 P) e (found f 1 P)), λ free. at free (lowest f 1 P) (found f 1 P))
     where
       at : ((r : Rule) → r ∈ P → Test r → ⊥) → (p : Place) → Found f 1 P p → p ≡ Nowhere

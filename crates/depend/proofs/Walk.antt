@@ -1,33 +1,16 @@
--- The rules and aggregates of an accepted table, one at a time, and the lowest rule that passes a test. Assumes nothing.
-use mathlib.Core.Path.{_≡_, refl, sym, ap, _∙_, subst}
+-- The rules of an accepted table, one at a time, and the lowest rule that passes a test. Assumes nothing.
+use mathlib.Core.Path.{_≡_, refl, sym, ap, _∙_}
 use mathlib.Core.Bool.{Bool, true, false, _||_}
 use mathlib.Core.List.{List, [], _∷_}
-use Prim.Native.Nat.{ℕ, suc, _+_, _-_, _*_, _≤_, _<_}
+use Prim.Native.Nat.{ℕ, suc, _+_, _-_, _≤_, _<_}
 use native.Mathlib.Omega.{arith}
-use lib.IntN.{ℤ, pos, natAbs}
-use lib.ListN.{length, getD, drop, length-take}
-use lib.Seq.{getD-take, getD-drop}
+use lib.IntN.{ℤ}
 use Rattle.meaning.specs.Lists.{any}
-use Rattle.meaning.specs.Program.{Rule, Program, In}
-use Rattle.layout.specs.declared.Table.{Table}
-use Rattle.layout.specs.Layout.{natAt, pairsAt, startFrom, AggregateLies, ruleAt, rulesFrom, pastRule, Laid}
+use Rattle.meaning.specs.Program.{Rule, Program}
+use Rattle.layout.specs.Layout.{ruleAt, rulesFrom, pastRule}
 use Rattle.layout.proofs.Rounds.{rules-on, rules-none}
 use Rattle.depend.specs.declared.Place.the-variants.{Nowhere, At}
-use Rattle.depend.specs.Reach.{Elements}
 use Rattle.depend.specs.Cycles.{orLater, lowest}
-
-pub elements-lie : (top : ℕ) (t : List ℤ) (i : ℕ) → AggregateLies top t i → Elements top (pairsAt t i)
-elements-lie top t i h k j =
-    let n = natAt t (i + 3) in
-    let l : length (pairsAt t i) ≤ 2 * n = omega (arith, length-take (2 * n) (drop (i + 4) t)) in
-    let e : getD (pairsAt t i) (2 * k + 1) (pos 0) ≡ getD t (i + 4 + 2 * k + 1) (pos 0) =
-    getD-take (2 * n) (drop (i + 4) t) (2 * k + 1) (pos 0) (omega arith) ∙ getD-drop (i + 4) t (2 * k + 1) (pos 0) ∙ ap (λ (m : ℕ). getD t m (pos 0)) (omega arith) in
-    subst (λ (w : ℤ). In top (natAbs w)) (sym e) (h .atoms k (omega arith))
-
-pub elements-laid : (t : List ℤ) (tb : Table) → Laid t tb → (j : ℕ) → 1 ≤ j → j ≤ tb .aggregates → Elements 256 (pairsAt t (startFrom t 2 (j - 1)))
-elements-laid t tb h j a b k l =
-    let i = elements-lie (tb .atoms) t (startFrom t 2 (j - 1)) (h .aggregates (j - 1) (omega arith)) k l in
-    (i .0, omega (arith, h .fewAtoms))
 
 -- ---- rules
 

@@ -3,7 +3,7 @@
 -- exactly what `HeadCycle` and `AggregateCycle` mean.
 --   mayCross P         some rule has two head atoms, and some rule has head and positive atoms: there may be a head cycle
 --   mayReturn P        some rule has head atoms and aggregate literals: there may be an aggregate cycle
---   crossed X l        two different atoms of the list l each of which X relates to the other
+--   crossed X l        two different atoms of the list l that X relates
 --   returned X ps ls   X relates an element of one of the aggregate literals ls to one of the atoms ps
 --   lowest f k P       the first rule of P that passes f, rules being numbered from k on
 --   cycleOf n P        the refusal of a program over atoms 1 .. n, or nothing
@@ -53,9 +53,8 @@ mayReturn P = any addsArcs P
 -- ---- the tests of a rule
 
 module _ (X : ℕ → ℕ → Bool) where
-  -- p and q are different, and each reaches the other
   abbrev pub crossing : ℕ → ℕ → Bool
-  crossing p q = not (eqb p q) && X p q && X q p
+  crossing p q = not (eqb p q) && X p q
 
   abbrev pub crossed : List ℕ → Bool
   crossed l = any (λ p. any (λ q. crossing p q) l) l

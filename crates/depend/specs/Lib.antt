@@ -1,3 +1,3 @@
 -- The definitions that the contracts cite, in reading order.
-pub mod Reach
+pub mod Circles
 pub mod Cycles

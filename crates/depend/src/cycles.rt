@@ -1,5 +1,5 @@
-// The tests of a rule for a head cycle and for an aggregate cycle, and the lowest rule that passes each. What reaches what is asked of `chains`.
-// First, whether there can be a cycle of the kind at all: if not, nothing needs to be known. Meaning: `specs/Cycles.antt`; that these tests leave
+// The tests of a rule for a head cycle and for an aggregate cycle, and the lowest rule that passes each. What reaches what is asked of `reach`.
+// First, whether there can be a cycle of the kind at all: if not, nothing needs to be names. Meaning: `specs/Cycles.antt`; that these tests leave
 // out no cycle: `proofs/Skipped.antt`.
 ghost use mathlib.Core.Path.{_≡_};
 ghost use mathlib.Core.Bool.{_&&_};
@@ -8,12 +8,14 @@ ghost use Prim.Native.Nat.{_≤_};
 ghost use lib.ListN.{length};
 ghost use Rattle.meaning.specs.Lists.{any};
 ghost use Rattle.layout.specs.Layout.{pastAt, posAt, aggsAt, atoms, Members, pairs, literalOf, ruleAt, RuleLies, programOf, Laid};
-ghost use Rattle.depend.specs.Reach.{reach, Elements};
+ghost use Rattle.reach.specs.Arcs.{Elements};
+ghost use Rattle.depend.specs.Circles.{alike};
 ghost use Rattle.depend.specs.Cycles.{full, wide, makesArcs, addsArcs, mayCross, mayReturn, crossing, crossed, returning, returned, lowest};
 use crate::Place;
-use crate::chains;
-use crate::chains::Known;
+use crate::circles;
+use crate::circles::Names;
 use layout::Table;
+use reach::arcs;
 
 // ---- whether there can be a cycle
 
@@ -99,56 +101,53 @@ pub fn may_return(t: &[i32], tb: Table) -> bool
 
 // ---- which rule has one
 
-// Whether two atoms are different and each reaches the other.
-pub fn both_ways(known: &Known, p: usize, q: usize) -> bool
+// Whether two atoms are different and have the same name.
+pub fn both_ways(names: &Names, p: usize, q: usize) -> bool
     requires { ⌜ (1 ≤ p) × (p ≤ 256) × (1 ≤ q) × (q ≤ 256) ⌝ }
-    ensures { λ r. ⌜ r ≡ crossing (reach (now (known .entry))) p q ⌝ }
+    ensures { λ r. ⌜ r ≡ crossing (alike (now (names .entry))) p q ⌝ }
 {
     if p == q {
         return false;
     }
-    if chains::reaches(known, p, q) {
-        return chains::reaches(known, q, p);
-    }
-    false
+    circles::same(names, p, q)
 }
 
 // Whether p and some atom of a head do.
-pub fn crosses(known: &Known, head: &[i32], p: usize) -> bool
+pub fn crosses(names: &Names, head: &[i32], p: usize) -> bool
     requires { ⌜ Members 256 (now head) × (1 ≤ p) × (p ≤ 256) ⌝ }
-    ensures { λ r. ⌜ r ≡ any (λ q. crossing (reach (now (known .entry))) p q) (atoms (now (head .entry))) ⌝ }
+    ensures { λ r. ⌜ r ≡ any (λ q. crossing (alike (now (names .entry))) p q) (atoms (now (head .entry))) ⌝ }
 {
     let mut found = false;
     let mut i = head.len();
     while 0 < i {
         i -= 1;
         let q = words::atom(head, i);
-        let hit = both_ways(known, p, q);
+        let hit = both_ways(names, p, q);
         found = hit | found;
     }
     found
 }
 
 // Whether two atoms of a head do.
-pub fn crossed(known: &Known, head: &[i32]) -> bool
+pub fn crossed(names: &Names, head: &[i32]) -> bool
     requires { ⌜ Members 256 (now head) ⌝ }
-    ensures { λ r. ⌜ r ≡ crossed (reach (now (known .entry))) (atoms (now (head .entry))) ⌝ }
+    ensures { λ r. ⌜ r ≡ crossed (alike (now (names .entry))) (atoms (now (head .entry))) ⌝ }
 {
     let mut found = false;
     let mut i = head.len();
     while 0 < i {
         i -= 1;
         let p = words::atom(head, i);
-        let hit = crosses(known, head, p);
+        let hit = crosses(names, head, p);
         found = hit | found;
     }
     found
 }
 
 // Whether the atom of one of the pairs reaches p.
-pub fn element_reaches(known: &Known, l: &[i32], p: usize) -> bool
+pub fn element_reaches(names: &Names, l: &[i32], p: usize) -> bool
     requires { ⌜ Elements 256 (now l) × (1 ≤ p) × (p ≤ 256) ⌝ }
-    ensures { λ r. ⌜ r ≡ returning (reach (now (known .entry))) p (pairs (now (l .entry))) ⌝ }
+    ensures { λ r. ⌜ r ≡ returning (alike (now (names .entry))) p (pairs (now (l .entry))) ⌝ }
 {
     let mut found = false;
     let mut i = l.len() / 2;
@@ -156,67 +155,67 @@ pub fn element_reaches(known: &Known, l: &[i32], p: usize) -> bool
         i -= 1;
         let place = 2 * i + 1;
         let q = words::atom(l, place);
-        let hit = chains::reaches(known, q, p);
+        let hit = circles::same(names, q, p);
         found = hit | found;
     }
     found
 }
 
 // Whether an element of one of the aggregate literals reaches p.
-pub fn literal_reaches(t: &[i32], tb: Table, known: &Known, l: &[i32], p: usize) -> bool
+pub fn literal_reaches(t: &[i32], tb: Table, names: &Names, l: &[i32], p: usize) -> bool
     requires { ⌜ Laid (now t) tb × Members (tb .aggregates) (now l) × (1 ≤ p) × (p ≤ 256) ⌝ }
-    ensures { λ r. ⌜ r ≡ any (λ u. returning (reach (now (known .entry))) p (u .aggregate .elements)) (map (literalOf (now (t .entry))) (now (l .entry))) ⌝ }
+    ensures { λ r. ⌜ r ≡ any (λ u. returning (alike (now (names .entry))) p (u .aggregate .elements)) (map (literalOf (now (t .entry))) (now (l .entry))) ⌝ }
 {
     let mut found = false;
     let mut i = l.len();
     while 0 < i {
         i -= 1;
         let j = words::atom(l, i);
-        let pairs = crate::parts::elements_of(t, tb, j);
-        let hit = element_reaches(known, pairs, p);
+        let pairs = arcs::elements_of(t, tb, j);
+        let hit = element_reaches(names, pairs, p);
         found = hit | found;
     }
     found
 }
 
 // Whether one of them reaches an atom of a head.
-pub fn head_reached(t: &[i32], tb: Table, known: &Known, head: &[i32], l: &[i32]) -> bool
+pub fn head_reached(t: &[i32], tb: Table, names: &Names, head: &[i32], l: &[i32]) -> bool
     requires { ⌜ Laid (now t) tb × Members 256 (now head) × Members (tb .aggregates) (now l) ⌝ }
-    ensures { λ r. ⌜ r ≡ returned (reach (now (known .entry))) (atoms (now (head .entry))) (map (literalOf (now (t .entry))) (now (l .entry))) ⌝ }
+    ensures { λ r. ⌜ r ≡ returned (alike (now (names .entry))) (atoms (now (head .entry))) (map (literalOf (now (t .entry))) (now (l .entry))) ⌝ }
 {
     let mut found = false;
     let mut i = head.len();
     while 0 < i {
         i -= 1;
         let p = words::atom(head, i);
-        let hit = literal_reaches(t, tb, known, l, p);
+        let hit = literal_reaches(t, tb, names, l, p);
         found = hit | found;
     }
     found
 }
 
 // Whether the rule that begins at `at` adds an arc that lies on a cycle.
-pub fn adds(t: &[i32], tb: Table, known: &Known, at: usize) -> bool
+pub fn adds(t: &[i32], tb: Table, names: &Names, at: usize) -> bool
     requires { ⌜ Laid (now t) tb × RuleLies (tb .atoms) (tb .aggregates) (now t) at ⌝ }
-    ensures { λ r. ⌜ r ≡ returned (reach (now (known .entry))) (ruleAt (now (t .entry)) at .head) (ruleAt (now (t .entry)) at .aggs) ⌝ }
+    ensures { λ r. ⌜ r ≡ returned (alike (now (names .entry))) (ruleAt (now (t .entry)) at .head) (ruleAt (now (t .entry)) at .aggs) ⌝ }
 {
     let place = layout::literals_at(t, at);
     let head = layout::part(t, at);
     let l = layout::part(t, place);
-    head_reached(t, tb, known, head, l)
+    head_reached(t, tb, names, head, l)
 }
 
 // The lowest rule with two head atoms that reach each other.
-pub fn first_head(t: &[i32], tb: Table, known: &Known) -> Place
+pub fn first_head(t: &[i32], tb: Table, names: &Names) -> Place
     requires { ⌜ Laid (now t) tb ⌝ }
-    ensures { λ r. ⌜ r ≡ lowest (λ u. crossed (reach (now (known .entry))) (u .head)) 1 (programOf (now (t .entry)) tb) ⌝ }
+    ensures { λ r. ⌜ r ≡ lowest (λ u. crossed (alike (now (names .entry))) (u .head)) 1 (programOf (now (t .entry)) tb) ⌝ }
 {
     let mut at = tb.first;
     let mut left = tb.rules;
     let mut number: usize = 1;
     while 0 < left {
         let head = layout::part(t, at);
-        if crossed(known, head) {
+        if crossed(names, head) {
             return Place::At(number);
         }
         let next = layout::past_rule(t, at);
@@ -228,15 +227,15 @@ pub fn first_head(t: &[i32], tb: Table, known: &Known) -> Place
 }
 
 // The lowest rule that adds an arc that lies on a cycle.
-pub fn first_aggregate(t: &[i32], tb: Table, known: &Known) -> Place
+pub fn first_aggregate(t: &[i32], tb: Table, names: &Names) -> Place
     requires { ⌜ Laid (now t) tb ⌝ }
-    ensures { λ r. ⌜ r ≡ lowest (λ u. returned (reach (now (known .entry))) (u .head) (u .aggs)) 1 (programOf (now (t .entry)) tb) ⌝ }
+    ensures { λ r. ⌜ r ≡ lowest (λ u. returned (alike (now (names .entry))) (u .head) (u .aggs)) 1 (programOf (now (t .entry)) tb) ⌝ }
 {
     let mut at = tb.first;
     let mut left = tb.rules;
     let mut number: usize = 1;
     while 0 < left {
-        if adds(t, tb, known, at) {
+        if adds(t, tb, names, at) {
             return Place::At(number);
         }
         let next = layout::past_rule(t, at);

@@ -1,21 +1,21 @@
 // Which atom depends on which, and refusals 8 and 9 from it (01, "Meaning": "Two classes are refused"), on an accepted table.
 // Meaning: `specs/Cycles.antt`; that it is exactly the definition's `HeadCycle` and `AggregateCycle`: `proofs/Exact.antt`.
-// Memory: one table of 256 × 256 bits, 8 KiB, for each of the two questions, one after the other: 16 KiB at the most, and 8 KiB where the second
-// table takes the place of the first.
-// Cost: one pass over the rules for each question, and where a cycle of the kind can be, N² joins of rows of four words to close the table,
-// N³ / 64 word operations at N = 256, and another pass.
+// Memory: a name of one byte for each atom, and what one visit takes (`reach`): a list of one byte and a mark of one bit for each atom.
+// Cost: where a cycle of the kind can be, a few walks that settle the atoms on no cycle; then, for each circle of atoms that is left, one visit and a
+// walk back or a few; and a pass over the rules.
 ghost use mathlib.Core.Path.{_≡_};
 ghost use Prim.Native.Nat.{suc};
 ghost use Rattle.meaning.specs.Cycles.{headCycle, aggregateCycle};
 ghost use Rattle.layout.specs.Layout.{programOf, Laid};
+ghost use Rattle.heads.specs.Heads.{Listed};
 ghost use Rattle.depend.specs.Cycles.{lowest, cycleOf};
+use heads::Lists;
 use layout::Table;
+use reach::settling;
 use results::Refusal;
 
-mod arcs;
-mod chains;
+mod circles;
 mod cycles;
-mod parts;
 
 // The lowest rule of a kind, from 1, if there is one.
 pub enum Place {
@@ -29,16 +29,16 @@ pub enum Cycle {
     Refused(Refusal),
 }
 
-// The refusal of an accepted table for its cycles: 8 before 9, each at its lowest rule.
-pub fn refusal(t: &[i32], tb: Table) -> Cycle
-    requires { ⌜ Laid (now t) tb ⌝ }
+// The refusal of an accepted table for its cycles: 8 before 9, each at its lowest rule. `lists` are the table's lists of rules by head.
+pub fn refusal(t: &[i32], tb: Table, lists: &Lists) -> Cycle
+    requires { ⌜ Laid (now t) tb × Listed (now t) tb (now lists) ⌝ }
     ensures { λ r. ⌜ r ≡ cycleOf (tb .atoms) (programOf (now (t .entry)) tb) ⌝ }
 {
-    let head = lowest_head(t, tb);
+    let head = lowest_head(t, tb, lists);
     match head {
         Place::At(rule) => Cycle::Refused(Refusal::HeadCycle(rule)),
         Place::Nowhere => {
-            let aggregate = lowest_aggregate(t, tb);
+            let aggregate = lowest_aggregate(t, tb, lists);
             match aggregate {
                 Place::At(rule) => Cycle::Refused(Refusal::AggregateCycle(rule)),
                 Place::Nowhere => Cycle::Nothing,
@@ -48,27 +48,35 @@ pub fn refusal(t: &[i32], tb: Table) -> Cycle
 }
 
 // The lowest rule with a head cycle.
-fn lowest_head(t: &[i32], tb: Table) -> Place
-    requires { ⌜ Laid (now t) tb ⌝ }
+fn lowest_head(t: &[i32], tb: Table, lists: &Lists) -> Place
+    requires { ⌜ Laid (now t) tb × Listed (now t) tb (now lists) ⌝ }
     ensures { λ r. ⌜ r ≡ lowest (headCycle (suc (tb .atoms)) (programOf (now (t .entry)) tb)) 1 (programOf (now (t .entry)) tb) ⌝ }
 {
     if !cycles::may_cross(t, tb) {
         return Place::Nowhere;
     }
-    let mut known = chains::nothing();
-    chains::build(t, tb, false, &mut known);
-    cycles::first_head(t, tb, &known)
+    let settled = settling::settled(t, tb, lists, false);
+    if settling::everything(settled, tb) {
+        return Place::Nowhere;
+    }
+    let mut names = circles::apart();
+    circles::find(t, tb, lists, false, settled, &mut names);
+    cycles::first_head(t, tb, &names)
 }
 
 // The lowest rule that adds an arc of an aggregate cycle.
-fn lowest_aggregate(t: &[i32], tb: Table) -> Place
-    requires { ⌜ Laid (now t) tb ⌝ }
+fn lowest_aggregate(t: &[i32], tb: Table, lists: &Lists) -> Place
+    requires { ⌜ Laid (now t) tb × Listed (now t) tb (now lists) ⌝ }
     ensures { λ r. ⌜ r ≡ lowest (aggregateCycle (suc (tb .atoms)) (programOf (now (t .entry)) tb)) 1 (programOf (now (t .entry)) tb) ⌝ }
 {
     if !cycles::may_return(t, tb) {
         return Place::Nowhere;
     }
-    let mut known = chains::nothing();
-    chains::build(t, tb, true, &mut known);
-    cycles::first_aggregate(t, tb, &known)
+    let settled = settling::settled(t, tb, lists, true);
+    if settling::everything(settled, tb) {
+        return Place::Nowhere;
+    }
+    let mut names = circles::apart();
+    circles::find(t, tb, lists, true, settled, &mut names);
+    cycles::first_aggregate(t, tb, &names)
 }

@@ -1,8 +1,11 @@
 // The entries that C and Rust link, as `include/saucepebbly.h` declares them. A slice is a pointer and a length; that these are what they say and
-// that the lent buffers do not overlap is all that a caller owes. Meaning: `specs/Dock.antt`.
+// that the lent buffers do not overlap is all that a caller owes. Lent memory is an array of a fixed size, a plain pointer: nothing is said of what it
+// holds before or after, and no result depends on it. Meaning: `specs/Dock.antt`.
 ghost use mathlib.Core.Path.{_≡_};
 ghost use Rattle.dock.specs.Dock.{narrow, firstOf, secondOf, thirdOf, reported, withThird, checkReport, Solves, Approves};
 ghost use Rattle.results.specs.Results.{kindOf, checkKind};
+use foundation::Candidates;
+use heads::Lists;
 use results::Ask;
 use results::Checked;
 use results::Solved;
@@ -99,11 +102,13 @@ pub extern "C" fn saucepebbly_solve(
     plan: &mut [u8],
     report: &mut [u32],
     whys: &mut [u16],
+    lists: &mut Lists,
+    candidates: &mut Candidates,
 ) -> u32
     ensures { λ k. ⌜ Solves (now (words .entry)) limit (now (plan .entry)) (now (plan .exit)) (now (report .entry)) (now (report .exit)) (now (whys .entry)) (now (whys .exit)) k ⌝ }
 {
     let ask = Ask { limit };
-    let solution = solver::solve(words, ask, plan);
+    let solution = solver::solve_with(words, ask, plan, lists, candidates);
     let solved = solution.solved;
     let records = solution.whys;
     whys::write(records, whys);
@@ -114,10 +119,16 @@ pub extern "C" fn saucepebbly_solve(
 
 // Whether an offered plan is an answer set: the kind of the result, and in the report a refusal's number and place.
 #[no_mangle]
-pub extern "C" fn saucepebbly_approve(words: &[i32], plan: &[u8], report: &mut [u32]) -> u32
+pub extern "C" fn saucepebbly_approve(
+    words: &[i32],
+    plan: &[u8],
+    report: &mut [u32],
+    lists: &mut Lists,
+    candidates: &mut Candidates,
+) -> u32
     ensures { λ k. ⌜ Approves (now (words .entry)) (now (plan .entry)) (now (report .entry)) (now (report .exit)) k ⌝ }
 {
-    let checked = solver::approve(words, plan);
+    let checked = solver::approve_with(words, plan, lists, candidates);
     match checked {
         Checked::Yes => 0,
         Checked::No => 1,

@@ -31,7 +31,7 @@ use Rattle.judging.specs.declared.Buffer.the-variants as lent
 use Rattle.judging.specs.Refusals.{earns, Accepted, Refused, words, buffer, table, head, aggregate}
 use Rattle.judging.specs.Judging.{Placed, faultOf, refusedReading, takenReading, Judged, refused, taken}
 
-no-fault : {x : Fault} {f : Refusal} → x ≡ fault.Refused f → x ≡ fault.Nothing → ⊥
+pub no-fault : {x : Fault} {f : Refusal} → x ≡ fault.Refused f → x ≡ fault.Nothing → ⊥
 no-fault e i = let z : _≡_ {A = ℕ} 0 1 = cc in omega arith
 
 same-fault : {x : Fault} {f g : Refusal} → x ≡ fault.Refused f → x ≡ fault.Refused g → f ≡ g

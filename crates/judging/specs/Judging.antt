@@ -2,6 +2,7 @@
 --   Placed            the places tb are those of the contents c in the words t
 --   Judged            the whole judgement: the refusal, or the places of what the words hold
 --   JudgedWords       the same of the words alone, where they are not too many and no buffer is bad
+--   Filled            the lists of rules by head that are made on the way
 --   refusedReading    a refusal, with no places;  faultOf, the refusal that the entry's own buffer earns
 -- Assumes nothing.
 use mathlib.Core.Path.{_≡_}
@@ -16,6 +17,7 @@ use Rattle.results.specs.declared.Refusal.the-variants as refusal
 use Rattle.results.specs.Results.{numberOf, placeOf}
 use Rattle.layout.specs.declared.Table.{Table}
 use Rattle.layout.specs.Layout.{Laid, programOf}
+use Rattle.heads.specs.Heads.{Listed}
 use Rattle.table.specs.Contents.{Contents, program}
 use Rattle.table.specs.Places.{tableOf}
 use Rattle.table.specs.declared.Fault.{Fault}
@@ -46,3 +48,7 @@ pub data Judged (t : List ℤ) (b : Buffer) (r : Reading) : Type 0 where
 
 abbrev pub JudgedWords : List ℤ → Reading → Type 0
 JudgedWords t r = length t ≤ 16384 → (b : Buffer) → earns b ≡ none → Judged t b r
+
+-- the lists of rules by head of a table that is not refused
+abbrev pub Filled : List ℤ → Reading → List ℕ → Type 0
+Filled t r a = r .fault ≡ fault.Nothing → Listed t (r .table) a

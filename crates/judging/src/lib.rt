@@ -5,8 +5,9 @@ ghost use mathlib.Core.Path.{_≡_};
 ghost use Prim.Native.Nat.{_≤_};
 ghost use lib.ListN.{length};
 ghost use Rattle.judging.specs.Refusals.{Accepted, Refused};
-ghost use Rattle.judging.specs.Judging.{Judged, JudgedWords, refusedReading, faultOf};
+ghost use Rattle.judging.specs.Judging.{Judged, JudgedWords, Filled, refusedReading, faultOf};
 use depend::Cycle;
+use heads::Lists;
 use layout::Table;
 use results::Refusal;
 use table::Fault;
@@ -56,9 +57,9 @@ fn refused(f: Refusal) -> Reading
     }
 }
 
-// The words alone, of which there are not too many: the first faulty word, 3, 8 and 9.
-fn words_judged(words: &[i32]) -> Reading
-    ensures { λ r. ⌜ JudgedWords (now (words .entry)) r ⌝ }
+// The words alone, of which there are not too many: the first faulty word, 3, 8 and 9. The lists of rules by head are made before 8 and 9 are asked.
+fn words_judged(words: &[i32], lists: &mut Lists) -> Reading
+    ensures { λ r. ⌜ JudgedWords (now (words .entry)) r × Filled (now (words .entry)) r (now (lists .exit)) ⌝ }
 {
     let reading = table::read(words);
     let fault = reading.fault;
@@ -66,7 +67,8 @@ fn words_judged(words: &[i32]) -> Reading
         Fault::Refused(_) => reading,
         Fault::Nothing => {
             let tb = reading.table;
-            let cycle = depend::refusal(words, tb);
+            heads::fill(words, tb, lists);
+            let cycle = depend::refusal(words, tb, lists);
             match cycle {
                 Cycle::Nothing => reading,
                 Cycle::Refused(f) => refused(f),
@@ -75,9 +77,9 @@ fn words_judged(words: &[i32]) -> Reading
     }
 }
 
-// Where the parts of an accepted table stand, or why it is refused.
-pub fn judge(words: &[i32], buffer: Buffer) -> Reading
-    ensures { λ r. ⌜ Judged (now (words .entry)) buffer r ⌝ }
+// Where the parts of an accepted table stand, with its lists of rules by head; or why it is refused. What the lists held before does not matter.
+pub fn judge_by(words: &[i32], buffer: Buffer, lists: &mut Lists) -> Reading
+    ensures { λ r. ⌜ Judged (now (words .entry)) buffer r × Filled (now (words .entry)) r (now (lists .exit)) ⌝ }
 {
     if Table::WORDS < words.len() {
         return refused(Refusal::TooManyWords);
@@ -85,6 +87,14 @@ pub fn judge(words: &[i32], buffer: Buffer) -> Reading
     let bad = earned(buffer);
     match bad {
         Fault::Refused(f) => refused(f),
-        Fault::Nothing => words_judged(words),
+        Fault::Nothing => words_judged(words, lists),
     }
+}
+
+// Where the parts of an accepted table stand, or why it is refused.
+pub fn judge(words: &[i32], buffer: Buffer) -> Reading
+    ensures { λ r. ⌜ Judged (now (words .entry)) buffer r ⌝ }
+{
+    let mut lists = [0u16; heads::SIZE];
+    judge_by(words, buffer, &mut lists)
 }

@@ -185,18 +185,17 @@ pub fn search_by(
     }
 }
 
-// The search over an accepted table from its start: the lists of its rules are made once. What the lent arrays held before does not matter.
-pub fn search_with(
+// The search over an accepted table from its start, by the lists of its rules. What the candidates' array held before does not matter.
+pub fn search(
     t: &[i32],
     tb: Table,
+    lists: &Lists,
     limit: u32,
-    lists: &mut Lists,
     candidates: &mut Candidates,
 ) -> Found
-    requires { ⌜ Laid (now t) tb ⌝ }
+    requires { ⌜ Laid (now t) tb × Listed (now t) tb (now lists) ⌝ }
     ensures { λ r. ⌜ Solves (base (programOf (now (t .entry)) tb) (tb .atoms)) limit r ⌝ }
 {
-    heads::fill(t, tb, lists);
     let it = Interpretation::start();
     let from = Start {
         it,

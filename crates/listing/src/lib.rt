@@ -11,6 +11,7 @@ ghost use Rattle.levels.specs.Levels.{upTo};
 ghost use Rattle.search.specs.Base.{base};
 ghost use Rattle.turns.specs.Turns.{ChosenIn, backOf};
 ghost use Rattle.listing.specs.Rows.{rowByte, rowPut, ListsBy};
+use foundation::Candidates;
 use heads::Lists;
 use interpretation::Interpretation;
 use layout::Table;
@@ -88,7 +89,14 @@ fn report(kind: Kind, number: usize, found: Found) -> Told
 }
 
 // The listing, by the lists of the table's rules: search, write the plan's row, go back, and search on.
-pub fn list_by(t: &[i32], tb: Table, lists: &Lists, limit: u32, rows: &mut [u8]) -> Told
+pub fn list_by(
+    t: &[i32],
+    tb: Table,
+    lists: &Lists,
+    limit: u32,
+    rows: &mut [u8],
+    candidates: &mut Candidates,
+) -> Told
     requires { ⌜ Laid (now t) tb × Listed (now t) tb (now lists) ⌝ }
     ensures { λ r. ⌜ ListsBy (base (programOf (now (t .entry)) tb) (tb .atoms)) limit (length (now (rows .entry)) / 256) (now (rows .entry)) (now (rows .exit)) r ⌝ }
 {
@@ -104,7 +112,7 @@ pub fn list_by(t: &[i32], tb: Table, lists: &Lists, limit: u32, rows: &mut [u8])
     let mut reasons = levels::no_rows();
     let mut number: usize = 0;
     loop {
-        let halt = jumping::search_by(t, tb, lists, limit, from, reasons);
+        let halt = jumping::search_by(t, tb, lists, limit, from, reasons, candidates);
         let found = halt.found;
         let ending = found.ending;
         match ending {

@@ -13,6 +13,8 @@ ghost use Rattle.promises.specs.Plans.{planAtoms};
 ghost use Rattle.solver.specs.Explaining.{Explaining};
 ghost use Rattle.solver.specs.Approving.{Approving};
 ghost use Rattle.solver.specs.Plans.{badFrom, checkedBy, isAnswer, whysFor};
+use foundation::Candidates;
+use heads::Lists;
 use judging::Buffer;
 use layout::Table;
 use plans::Offer;
@@ -32,13 +34,20 @@ pub struct Solution {
 }
 
 // The night's plan: an answer, none or limit with the counts, or a refusal. Only an answer writes, and only the bytes of the
-// table's own atoms; only an answer explains.
-pub fn solve(words: &[i32], ask: Ask, plan: &mut [u8]) -> Solution
+// table's own atoms; only an answer explains. The memory of the search is lent: nothing is said of what it holds before or after, and nothing
+// depends on it.
+pub fn solve_with(
+    words: &[i32],
+    ask: Ask,
+    plan: &mut [u8],
+    lists: &mut Lists,
+    candidates: &mut Candidates,
+) -> Solution
     ensures { λ r. ⌜ Solving (now (words .entry)) ask (now (plan .entry)) (now (plan .exit)) (r .solved)
         × Explaining (now (words .entry)) (Plan (length (now (plan .entry)))) (now (plan .exit)) (r .solved) (r .whys) ⌝ }
 {
     let room = plan.len();
-    let judged = judging::judge(words, Buffer::Plan(room));
+    let judged = judging::judge_by(words, Buffer::Plan(room), lists);
     let fault = judged.fault;
     match fault {
         Fault::Refused(f) => {
@@ -49,13 +58,23 @@ pub fn solve(words: &[i32], ask: Ask, plan: &mut [u8]) -> Solution
         Fault::Nothing => {
             let tb = judged.table;
             let limit = ask.limit;
-            let found = jumping::search(words, tb, limit);
+            let found = jumping::search(words, tb, lists, limit, candidates);
             let atoms = tb.atoms;
             let solved = plans::report(found, atoms, plan);
             let whys = whys_for(words, tb, solved, plan);
             Solution { solved, whys }
         }
     }
+}
+
+// The same with memory of its own.
+pub fn solve(words: &[i32], ask: Ask, plan: &mut [u8]) -> Solution
+    ensures { λ r. ⌜ Solving (now (words .entry)) ask (now (plan .entry)) (now (plan .exit)) (r .solved)
+        × Explaining (now (words .entry)) (Plan (length (now (plan .entry)))) (now (plan .exit)) (r .solved) (r .whys) ⌝ }
+{
+    let mut lists = [0u16; heads::SIZE];
+    let mut candidates = [0u32; Table::RULES];
+    solve_with(words, ask, plan, &mut lists, &mut candidates)
 }
 
 // Only an answer comes with rounds and rules.
@@ -82,24 +101,39 @@ fn whys_for(words: &[i32], tb: Table, solved: Solved, plan: &[u8]) -> [Why; 256]
     explaining::explain(words, tb, &values)
 }
 
-// Whether an offered plan is an answer set of the table, or a refusal. It makes no search and never writes.
-pub fn approve(words: &[i32], plan: &[u8]) -> Checked
+// Whether an offered plan is an answer set of the table, or a refusal. It makes no search and never writes to the plan. Its memory is lent, as that of
+// `solve_with`.
+pub fn approve_with(
+    words: &[i32],
+    plan: &[u8],
+    lists: &mut Lists,
+    candidates: &mut Candidates,
+) -> Checked
     ensures { λ r. ⌜ Approving (now (words .entry)) (now (plan .entry)) r ⌝ }
 {
     let room = plan.len();
-    let judged = judging::judge(words, Buffer::Plan(room));
+    let judged = judging::judge_by(words, Buffer::Plan(room), lists);
     let fault = judged.fault;
     match fault {
         Fault::Refused(f) => Checked::Refused(f),
         Fault::Nothing => {
             let tb = judged.table;
-            check(words, tb, plan)
+            check(words, tb, plan, candidates)
         }
     }
 }
 
+// The same with memory of its own.
+pub fn approve(words: &[i32], plan: &[u8]) -> Checked
+    ensures { λ r. ⌜ Approving (now (words .entry)) (now (plan .entry)) r ⌝ }
+{
+    let mut lists = [0u16; heads::SIZE];
+    let mut candidates = [0u32; Table::RULES];
+    approve_with(words, plan, &mut lists, &mut candidates)
+}
+
 // The check of a plan offered for an accepted table: its bytes, then whether it is a model, then whether it is founded.
-fn check(words: &[i32], tb: Table, plan: &[u8]) -> Checked
+fn check(words: &[i32], tb: Table, plan: &[u8], candidates: &mut Candidates) -> Checked
     requires { ⌜ Laid (now words) tb × (256 ≤ length (now plan)) ⌝ }
     ensures { λ r. ⌜ r ≡ checkedBy (badFrom (now (plan .entry)) 0 (tb .atoms)) (model (programOf (now (words .entry)) tb) (planAtoms (tb .atoms) (now (plan .entry)))) (founded (programOf (now (words .entry)) tb) (tb .atoms) (planAtoms (tb .atoms) (now (plan .entry)))) ⌝ }
 {
@@ -110,7 +144,7 @@ fn check(words: &[i32], tb: Table, plan: &[u8]) -> Checked
         Offer::Good => {
             let values = plans::values_of(plan, n);
             if foundation::is_model(words, tb, &values) {
-                if foundation::founded(words, tb, &values) {
+                if foundation::founded_by(words, tb, &values, candidates) {
                     return Checked::Yes;
                 }
             }

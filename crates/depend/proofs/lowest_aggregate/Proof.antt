@@ -1,48 +1,64 @@
 -- `depend::lowest_aggregate` meets its contract. Assumes nothing.
-use borrow.Author.Needs.{needs}
-use mathlib.Core.Path.{_≡_, refl, sym, ap, _∙_}
-use mathlib.Core.Bool.{Bool}
-use Prim.Native.Nat.{ℕ, suc}
-use Rattle.meaning.specs.Program.{Rule, Program}
-use Rattle.meaning.specs.Dependency.{anyArc}
-use Rattle.meaning.specs.Cycles.{via, aggregateCycle, returns as returning}
+use mathlib.Core.Path.{_≡_, sym, _∙_}
+use Prim.Native.Nat.{suc}
 use Rattle.meaning.proofs.Tools.{not-is}
 use Rattle.layout.specs.Layout.{programOf}
-use Rattle.depend.specs.Cycles.{returned, lowest}
+use Rattle.levels.specs.View.{row}
+use Rattle.reach.proofs.Inside.{laid-inside}
 use Rattle.depend.proofs.Skipped.{no-aggregate-cycle}
+use Rattle.depend.proofs.Tested.{returned-named, settled-9}
+use borrow.Author.Needs.{needs}
 use Rattle.depend.proofs.lowest_aggregate.Statement.{statement}
 use Rattle.depend.proofs.lowest_aggregate.Tie as tie
 
 may-return-requires : tie.Need-may-return-requires
 may-return-requires c κs = search needs
 
-nothing-requires : tie.Need-nothing-requires
-nothing-requires c κs = search needs
-
-build-requires : tie.Need-build-requires
-build-requires c κs = search needs
-
-first-aggregate-requires : tie.Need-first-aggregate-requires
-first-aggregate-requires c κs = search needs
-
--- `meaning`'s test of a rule, over what reaches what
-tests : (n : ℕ) (P : Program) → lowest (λ (u : Rule). returned (via (anyArc P) n) (u .head) (u .aggs)) 1 P ≡ lowest (aggregateCycle n P) 1 P
-unfolding aggregateCycle returning
-tests n P = refl
-
--- there can be none
 returns : tie.Need-returns
 returns c =
     let a = c .before .before .args in
     sym (no-aggregate-cycle (suc (a .tb .atoms)) (programOf (a .t .now) (a .tb)) (sym (c .before .may-return .ensures) ∙ not-is _ (c .if1 .taken)))
 
+settled-requires : tie.Need-settled-requires
+settled-requires c κs = search needs
+
+everything-requires : tie.Need-everything-requires
+everything-requires c κs = search needs
+
 returns-2 : tie.Need-returns-2
 returns-2 c =
-    let b = c .before .before in
-    let a = b .before .before .before .before .before .args in
-    let P = programOf (a .t .now) (a .tb) in
-    c .first-aggregate .ensures ∙ ap (λ (X : ℕ → ℕ → Bool). lowest (λ (u : Rule). returned X (u .head) (u .aggs)) 1 P) (b .build .ensures .says) ∙ tests (suc (a .tb .atoms)) P
+    let e = c .before in
+    let d = e .before in
+    let s = d .before .before .before in
+    let a = s .args in
+    sym (settled-9 (a .tb .atoms) (programOf (a .t .now) (a .tb)) (laid-inside (a .t .now) (a .tb) (s .pre .0)) (row (d .settled .result)) (e .everything .ensures (c .if2 .taken)) (d .settled .ensures))
+
+apart-requires : tie.Need-apart-requires
+apart-requires c κs = search needs
+
+find-requires : tie.Need-find-requires
+find-requires c κs = search needs
+
+first-aggregate-requires : tie.Need-first-aggregate-requires
+first-aggregate-requires c κs = search needs
+
+returns-3 : tie.Need-returns-3
+returns-3 c =
+    let f = c .before .before in
+    let s = f .before .before .before .before .before .before .before .before in
+    let a = s .args in
+    c .first-aggregate .ensures ∙ returned-named (a .tb .atoms) (programOf (a .t .now) (a .tb)) (laid-inside (a .t .now) (a .tb) (s .pre .0)) (f .find .last .1 .1 .1 .1 .1 .0) (f .find .ensures)
 
 pub lowest-aggregate-spec : {M : Type 1} → statement M
 lowest-aggregate-spec =
-    tie.close (tie.spec may-return-requires returns nothing-requires build-requires first-aggregate-requires returns-2)
+    tie.close
+    (tie.spec
+    may-return-requires
+    returns
+    settled-requires
+    everything-requires
+    returns-2
+    apart-requires
+    find-requires
+    first-aggregate-requires
+    returns-3)

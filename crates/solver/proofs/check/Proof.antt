@@ -35,8 +35,8 @@ values-of-requires c κs =
 is-model-requires : tie.Need-is-model-requires
 is-model-requires c κs = let v = c .before in (v .before .before .before .before .before .pre .0, v .values-of .ensures .whole)
 
-founded-requires : tie.Need-founded-requires
-founded-requires c κs = let v = c .before .before .before .before in (v .before .before .before .before .before .pre .0, v .values-of .ensures .whole)
+founded-by-requires : tie.Need-founded-by-requires
+founded-by-requires c κs = let v = c .before .before .before .before .before in (v .before .before .before .before .before .pre .0, v .values-of .ensures .whole)
 
 -- the first bad byte, as it was found
 offered : (c : tie.After-first-bad) → let s = c .before .before in badFrom (s .args .plan .now) 0 (s .args .tb .atoms) ≡ c .first-bad .result
@@ -50,12 +50,12 @@ modelled c =
     let s = v .before .before .before .before .before in
     ap (model (programOf (s .args .words .now) (s .args .tb))) (sym (v .values-of .ensures .says)) ∙ sym (c .is-model .ensures)
 
-tested : (c : tie.After-founded) → let s = c .before .before .before .before .before .before .before .before .before .before in
-    founded (programOf (s .args .words .now) (s .args .tb)) (s .args .tb .atoms) (planAtoms (s .args .tb .atoms) (s .args .plan .now)) ≡ c .founded .result
+tested : (c : tie.After-founded-by) → let s = c .before .before .before .before .before .before .before .before .before .before .before in
+    founded (programOf (s .args .words .now) (s .args .tb)) (s .args .tb .atoms) (planAtoms (s .args .tb .atoms) (s .args .plan .now)) ≡ c .founded-by .result
 tested c =
-    let v = c .before .before .before .before .before in
+    let v = c .before .before .before .before .before .before in
     let s = v .before .before .before .before .before in
-    ap (founded (programOf (s .args .words .now) (s .args .tb)) (s .args .tb .atoms)) (sym (v .values-of .ensures .says)) ∙ sym (c .founded .ensures)
+    ap (founded (programOf (s .args .words .now) (s .args .tb)) (s .args .tb .atoms)) (sym (v .values-of .ensures .says)) ∙ sym (c .founded-by .ensures)
 
 -- the two tests of the offered plan
 abbrev isModel : tie.Start → Bool
@@ -74,10 +74,10 @@ good c =
 returns : tie.Need-returns
 returns c =
     let f = c .before in
-    let m = f .before .before .before in
+    let m = f .before .before .before .before in
     let t = m .before .before .before in
     let s = t .before .before .before .before in
-    sym (good t ∙ ap (λ (b : Bool). checkedBy offer.Good b (isFounded s)) (modelled m ∙ f .before .before .if1 .taken) ∙ ap (checkedBy offer.Good true) (tested f ∙ c .if2 .taken))
+    sym (good t ∙ ap (λ (b : Bool). checkedBy offer.Good b (isFounded s)) (modelled m ∙ f .before .before .before .if1 .taken) ∙ ap (checkedBy offer.Good true) (tested f ∙ c .if2 .taken))
 
 returns-2 : tie.Need-returns-2
 returns-2 c =
@@ -88,10 +88,10 @@ returns-2 c =
 returns-3 : tie.Need-returns-3
 returns-3 c =
     let f = c .before in
-    let m = f .before .before .before in
+    let m = f .before .before .before .before in
     let t = m .before .before .before in
     let s = t .before .before .before .before in
-    sym (good t ∙ ap (λ (b : Bool). checkedBy offer.Good b (isFounded s)) (modelled m ∙ f .before .before .if1 .taken) ∙ ap (checkedBy offer.Good true) (tested f ∙ c .if2 .left))
+    sym (good t ∙ ap (λ (b : Bool). checkedBy offer.Good b (isFounded s)) (modelled m ∙ f .before .before .before .if1 .taken) ∙ ap (checkedBy offer.Good true) (tested f ∙ c .if2 .left))
 
 returns-4 : tie.Need-returns-4
 returns-4 c =
@@ -101,4 +101,4 @@ returns-4 c =
     sym (good t ∙ ap (λ (b : Bool). checkedBy offer.Good b (isFounded s)) (modelled m ∙ c .if1 .left))
 
 pub check-spec : {M : Type 1} → statement M
-check-spec = tie.close (tie.spec first-bad-requires enum-known-offer enum-told values-of-requires is-model-requires founded-requires returns returns-2 returns-3 returns-4)
+check-spec = tie.close (tie.spec first-bad-requires enum-known-offer enum-told values-of-requires is-model-requires founded-by-requires returns returns-2 returns-3 returns-4)

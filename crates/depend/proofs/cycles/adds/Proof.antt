@@ -3,7 +3,7 @@ use mathlib.Core.Path.{_≡_, sym, ap, _∙_, subst}
 use mathlib.Core.List.{List, map}
 use lib.IntN.{ℤ}
 use Rattle.layout.specs.Layout.{partAt, aggsAt, atoms, Members, ruleAt}
-use Rattle.depend.specs.Reach.{reach}
+use Rattle.depend.specs.Circles.{alike}
 use Rattle.depend.specs.Cycles.{returned}
 use Rattle.layout.specs.Layout.{literalOf}
 use Rattle.layout.proofs.Rounds.{members-wide}
@@ -38,7 +38,7 @@ returns c =
     let d = c .before in
     let a = d .before .before .before .args in
     let t = a .t .now in
-    let X = reach (a .known .now) in
+    let X = alike (a .names .now) in
     c .head-reached .ensures ∙ ap (λ (l : List ℤ). returned X (atoms l) (map (literalOf t) (d .part2 .result .now))) (d .before .part .ensures)
     ∙ ap (λ (l : List ℤ). returned X (atoms (partAt t (a .at))) (map (literalOf t) l)) (literals d)
 

@@ -8,24 +8,24 @@ use lib.IntN.{ℤ, pos, natAbs}
 use lib.ListN.{length, getD, drop}
 use Rattle.meaning.specs.Lists.{any}
 use Rattle.layout.specs.Layout.{atoms}
-use Rattle.depend.specs.Reach.{reach}
+use Rattle.depend.specs.Circles.{alike}
 use Rattle.depend.specs.Cycles.{crossing}
-use Rattle.depend.proofs.Lists.{any-end, any-down, any-all}
+use Rattle.reach.proofs.Lists.{any-end, any-down, any-all}
 use Rattle.depend.proofs.cycles.crossed.Statement.{statement}
 use Rattle.depend.proofs.cycles.crossed.Tie as tie
 
 -- the test of a head atom
-abbrev passes : List (List ℕ) → List ℤ → ℕ → Bool
-passes known head = λ p. any (λ (q : ℕ). crossing (reach known) p q) (atoms head)
+abbrev passes : List ℕ → List ℤ → ℕ → Bool
+passes names head = λ p. any (λ (q : ℕ). crossing (alike names) p q) (atoms head)
 
 abbrev Inv-loop : tie.InvT-loop
-Inv-loop known head found₀ i₀ found i = (i ≤ length head) × (found ≡ any (passes known head) (atoms (drop i head)))
+Inv-loop names head found₀ i₀ found i = (i ≤ length head) × (found ≡ any (passes names head) (atoms (drop i head)))
 
 abbrev μ-loop : tie.MeasureT-loop
-μ-loop known head found₀ i₀ found i = i
+μ-loop names head found₀ i₀ found i = i
 
 loop-holds : tie.Need-loop-holds Inv-loop μ-loop
-loop-holds c = (omega arith, sym (any-end (c .args .head .now) (length (c .args .head .now)) (passes (c .args .known .now) (c .args .head .now)) natAbs (omega arith)))
+loop-holds c = (omega arith, sym (any-end (c .args .head .now) (length (c .args .head .now)) (passes (c .args .names .now) (c .args .head .now)) natAbs (omega arith)))
 
 sub-i : tie.Need-sub-i Inv-loop μ-loop
 sub-i c = omega arith
@@ -46,7 +46,7 @@ loop-again : tie.Need-loop-again Inv-loop μ-loop
 loop-again c =
     let b = c .before .before .before in
     let a = b .before .args in
-    let f = passes (a .known .now) (a .head .now) in (
+    let f = passes (a .names .now) (a .head .now) in (
       omega arith,
       ap (λ (x : Bool). x || b .loop .found) (c .crosses .ensures ∙ ap f (c .before .atom .ensures))
           ∙ ap (λ (x : Bool). f (natAbs (getD (a .head .now) (b .loop .i - 1) (pos 0))) || x) (b .loop .inv .1)
@@ -56,7 +56,7 @@ loop-again c =
 returns : tie.Need-returns Inv-loop μ-loop
 returns c =
     let a = c .before .before .args in
-    c .before .loop .inv .1 ∙ any-all (a .head .now) (c .before .loop .i) (passes (a .known .now) (a .head .now)) natAbs (c .loop-test .left)
+    c .before .loop .inv .1 ∙ any-all (a .head .now) (c .before .loop .i) (passes (a .names .now) (a .head .now)) natAbs (c .loop-test .left)
 
 pub crossed-spec : {M : Type 1} → statement M
 crossed-spec =

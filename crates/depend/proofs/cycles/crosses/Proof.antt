@@ -7,20 +7,20 @@ use lib.IntN.{pos, natAbs}
 use lib.ListN.{length, getD, drop}
 use Rattle.meaning.specs.Lists.{any}
 use Rattle.layout.specs.Layout.{atoms}
-use Rattle.depend.specs.Reach.{reach}
+use Rattle.depend.specs.Circles.{alike}
 use Rattle.depend.specs.Cycles.{crossing}
-use Rattle.depend.proofs.Lists.{any-end, any-down, any-all}
+use Rattle.reach.proofs.Lists.{any-end, any-down, any-all}
 use Rattle.depend.proofs.cycles.crosses.Statement.{statement}
 use Rattle.depend.proofs.cycles.crosses.Tie as tie
 
 abbrev Inv-loop : tie.InvT-loop
-Inv-loop known head p found₀ i₀ found i = (i ≤ length head) × (found ≡ any (λ (q : ℕ). crossing (reach known) p q) (atoms (drop i head)))
+Inv-loop names head p found₀ i₀ found i = (i ≤ length head) × (found ≡ any (λ (q : ℕ). crossing (alike names) p q) (atoms (drop i head)))
 
 abbrev μ-loop : tie.MeasureT-loop
-μ-loop known head p found₀ i₀ found i = i
+μ-loop names head p found₀ i₀ found i = i
 
 loop-holds : tie.Need-loop-holds Inv-loop μ-loop
-loop-holds c = (omega arith, sym (any-end (c .args .head .now) (length (c .args .head .now)) (λ (q : ℕ). crossing (reach (c .args .known .now)) (c .args .p) q) natAbs (omega arith)))
+loop-holds c = (omega arith, sym (any-end (c .args .head .now) (length (c .args .head .now)) (λ (q : ℕ). crossing (alike (c .args .names .now)) (c .args .p) q) natAbs (omega arith)))
 
 sub-i : tie.Need-sub-i Inv-loop μ-loop
 sub-i c = omega arith
@@ -41,7 +41,7 @@ loop-again : tie.Need-loop-again Inv-loop μ-loop
 loop-again c =
     let b = c .before .before .before in
     let a = b .before .args in
-    let f : ℕ → Bool = λ q. crossing (reach (a .known .now)) (a .p) q in (
+    let f : ℕ → Bool = λ q. crossing (alike (a .names .now)) (a .p) q in (
       omega arith,
       ap (λ (x : Bool). x || b .loop .found) (c .both-ways .ensures ∙ ap f (c .before .atom .ensures))
           ∙ ap (λ (x : Bool). f (natAbs (getD (a .head .now) (b .loop .i - 1) (pos 0))) || x) (b .loop .inv .1)
@@ -51,7 +51,7 @@ loop-again c =
 returns : tie.Need-returns Inv-loop μ-loop
 returns c =
     let a = c .before .before .args in
-    c .before .loop .inv .1 ∙ any-all (a .head .now) (c .before .loop .i) (λ (q : ℕ). crossing (reach (a .known .now)) (a .p) q) natAbs (c .loop-test .left)
+    c .before .loop .inv .1 ∙ any-all (a .head .now) (c .before .loop .i) (λ (q : ℕ). crossing (alike (a .names .now)) (a .p) q) natAbs (c .loop-test .left)
 
 pub crosses-spec : {M : Type 1} → statement M
 crosses-spec =

@@ -7,20 +7,20 @@ use lib.IntN.{pos, natAbs}
 use lib.ListN.{length, getD, drop}
 use Rattle.meaning.specs.Program.{Element}
 use Rattle.layout.specs.Layout.{pairs}
-use Rattle.depend.specs.Reach.{reach}
+use Rattle.depend.specs.Circles.{alike}
 use Rattle.depend.specs.Cycles.{returning}
-use Rattle.depend.proofs.Lists.{pair-end, pair-down, pair-all}
+use Rattle.reach.proofs.Lists.{pair-end, pair-down, pair-all}
 use Rattle.depend.proofs.cycles.element_reaches.Statement.{statement}
 use Rattle.depend.proofs.cycles.element_reaches.Tie as tie
 
 abbrev Inv-loop : tie.InvT-loop
-Inv-loop known l p found₀ i₀ found i = (2 * i ≤ length l) × (found ≡ returning (reach known) p (pairs (drop (2 * i) l)))
+Inv-loop names l p found₀ i₀ found i = (2 * i ≤ length l) × (found ≡ returning (alike names) p (pairs (drop (2 * i) l)))
 
 abbrev μ-loop : tie.MeasureT-loop
-μ-loop known l p found₀ i₀ found i = i
+μ-loop names l p found₀ i₀ found i = i
 
 loop-holds : tie.Need-loop-holds Inv-loop μ-loop
-loop-holds c = (omega arith, sym (pair-end (c .args .l .now) (length (c .args .l .now) / 2) (λ (e : Element). reach (c .args .known .now) (e .atom) (c .args .p)) (omega arith)))
+loop-holds c = (omega arith, sym (pair-end (c .args .l .now) (length (c .args .l .now) / 2) (λ (e : Element). alike (c .args .names .now) (e .atom) (c .args .p)) (omega arith)))
 
 sub-i : tie.Need-sub-i Inv-loop μ-loop
 sub-i c = omega arith
@@ -34,8 +34,8 @@ add-place c = omega arith
 atom-requires : tie.Need-atom-requires Inv-loop μ-loop
 atom-requires c κs = omega arith
 
-reaches-requires : tie.Need-reaches-requires Inv-loop μ-loop
-reaches-requires c κs =
+same-requires : tie.Need-same-requires Inv-loop μ-loop
+same-requires c κs =
     let s = c .before .before .before in
     let h : (1 ≤ c .atom .result) × (c .atom .result ≤ 256) = rw (c .atom .ensures) (s .pre .0 _ (omega arith)) in
     (h .0, h .1, s .pre .1, s .pre .2)
@@ -47,9 +47,9 @@ loop-again : tie.Need-loop-again Inv-loop μ-loop
 loop-again c =
     let b = c .before .before .before in
     let a = b .before .args in
-    let f : ℕ → Bool = λ q. reach (a .known .now) q (a .p) in (
+    let f : ℕ → Bool = λ q. alike (a .names .now) q (a .p) in (
       omega arith,
-      ap (λ (x : Bool). x || b .loop .found) (c .reaches .ensures ∙ ap f (c .before .atom .ensures))
+      ap (λ (x : Bool). x || b .loop .found) (c .same .ensures ∙ ap f (c .before .atom .ensures))
           ∙ ap (λ (x : Bool). f (natAbs (getD (a .l .now) (2 * (b .loop .i - 1) + 1) (pos 0))) || x) (b .loop .inv .1)
           ∙ sym (pair-down (a .l .now) (b .loop .i) (λ (e : Element). f (e .atom)) (c .before .before .loop-test .taken) (b .loop .inv .0)),
     )
@@ -57,7 +57,7 @@ loop-again c =
 returns : tie.Need-returns Inv-loop μ-loop
 returns c =
     let a = c .before .before .args in
-    c .before .loop .inv .1 ∙ pair-all (a .l .now) (c .before .loop .i) (λ (e : Element). reach (a .known .now) (e .atom) (a .p)) (c .loop-test .left)
+    c .before .loop .inv .1 ∙ pair-all (a .l .now) (c .before .loop .i) (λ (e : Element). alike (a .names .now) (e .atom) (a .p)) (c .loop-test .left)
 
 pub element-reaches-spec : {M : Type 1} → statement M
 element-reaches-spec =
@@ -70,7 +70,7 @@ element-reaches-spec =
     mul-place
     add-place
     atom-requires
-    reaches-requires
+    same-requires
     loop-less
     loop-again
     returns)

@@ -6,7 +6,7 @@ use Prim.Native.Nat.{ℕ, _+_, _-_, _≤_}
 use native.Mathlib.Omega.{arith}
 use Rattle.meaning.specs.Program.{Rule}
 use Rattle.layout.specs.Layout.{pastRule, atoms, rulesFrom, RuleLies, RulesLie}
-use Rattle.depend.specs.Reach.{reach}
+use Rattle.depend.specs.Circles.{alike}
 use Rattle.depend.specs.Cycles.{returned, lowest}
 use Rattle.layout.proofs.Rounds.{lies-on}
 use Rattle.depend.proofs.Walk.{lowest-here, lowest-later, lowest-end}
@@ -14,16 +14,16 @@ use Rattle.depend.proofs.cycles.first_aggregate.Statement.{statement}
 use Rattle.depend.proofs.cycles.first_aggregate.Tie as tie
 
 -- the test of a rule
-abbrev passes : List (List ℕ) → Rule → Bool
-passes known = λ u. returned (reach known) (u .head) (u .aggs)
+abbrev passes : List ℕ → Rule → Bool
+passes names = λ u. returned (alike names) (u .head) (u .aggs)
 
 abbrev Inv-loop : tie.InvT-loop
-Inv-loop t tb known at₀ left₀ number₀ at left number =
+Inv-loop t tb names at₀ left₀ number₀ at left number =
     RulesLie (tb .atoms) (tb .aggregates) t at left × (number + left ≤ 1025)
-    × (lowest (passes known) number (rulesFrom t at left) ≡ lowest (passes known) 1 (rulesFrom t (tb .first) (tb .rules)))
+    × (lowest (passes names) number (rulesFrom t at left) ≡ lowest (passes names) 1 (rulesFrom t (tb .first) (tb .rules)))
 
 abbrev μ-loop : tie.MeasureT-loop
-μ-loop t tb known at₀ left₀ number₀ at left number = left
+μ-loop t tb names at₀ left₀ number₀ at left number = left
 
 loop-holds : tie.Need-loop-holds Inv-loop μ-loop
 loop-holds c = (c .pre .rulesLie, omega (arith, c .pre .fewRules), refl)
@@ -43,7 +43,7 @@ returns c =
     let d = c .before in
     let b = d .before .before in
     let a = b .before .args in
-    sym (lowest-here (a .t .now) (b .loop .at) (passes (a .known .now)) (b .loop .number) (b .loop .left) (d .before .loop-test .taken) (sym (d .adds .ensures) ∙ c .if1 .taken)) ∙ b .loop .inv .2
+    sym (lowest-here (a .t .now) (b .loop .at) (passes (a .names .now)) (b .loop .number) (b .loop .left) (d .before .loop-test .taken) (sym (d .adds .ensures) ∙ c .if1 .taken)) ∙ b .loop .inv .2
 
 past-rule-requires : tie.Need-past-rule-requires Inv-loop μ-loop
 past-rule-requires c κs = lies (c .before .before) .0 .aggs .fits
@@ -65,8 +65,8 @@ loop-again c =
     let t = a .t .now in (
       subst (λ (j : ℕ). RulesLie (a .tb .atoms) (a .tb .aggregates) t j (b .loop .left - 1)) (sym (c .past-rule .ensures)) (lies (d .before) .1),
       omega arith,
-      ap (λ (j : ℕ). lowest (passes (a .known .now)) (b .loop .number + 1) (rulesFrom t j (b .loop .left - 1))) (c .past-rule .ensures)
-          ∙ sym (lowest-later t (b .loop .at) (passes (a .known .now)) (b .loop .number) (b .loop .left) (d .before .loop-test .taken) (sym (d .adds .ensures) ∙ c .before .if1 .left))
+      ap (λ (j : ℕ). lowest (passes (a .names .now)) (b .loop .number + 1) (rulesFrom t j (b .loop .left - 1))) (c .past-rule .ensures)
+          ∙ sym (lowest-later t (b .loop .at) (passes (a .names .now)) (b .loop .number) (b .loop .left) (d .before .loop-test .taken) (sym (d .adds .ensures) ∙ c .before .if1 .left))
           ∙ b .loop .inv .2,
     )
 
@@ -74,7 +74,7 @@ returns-2 : tie.Need-returns-2 Inv-loop μ-loop
 returns-2 c =
     let b = c .before in
     let a = b .before .args in
-    sym (lowest-end (a .t .now) (b .loop .at) (passes (a .known .now)) (b .loop .number) (b .loop .left) (c .loop-test .left)) ∙ b .loop .inv .2
+    sym (lowest-end (a .t .now) (b .loop .at) (passes (a .names .now)) (b .loop .number) (b .loop .left) (c .loop-test .left)) ∙ b .loop .inv .2
 
 pub first-aggregate-spec : {M : Type 1} → statement M
 first-aggregate-spec =

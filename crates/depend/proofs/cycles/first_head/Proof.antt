@@ -7,7 +7,7 @@ use native.Mathlib.Omega.{arith}
 use lib.IntN.{ℤ}
 use Rattle.meaning.specs.Program.{Rule}
 use Rattle.layout.specs.Layout.{partAt, pastRule, atoms, Members, ruleAt, rulesFrom, RuleLies, RulesLie}
-use Rattle.depend.specs.Reach.{reach}
+use Rattle.depend.specs.Circles.{alike}
 use Rattle.depend.specs.Cycles.{crossed, lowest}
 use Rattle.layout.proofs.Rounds.{members-wide, lies-on}
 use Rattle.depend.proofs.Walk.{lowest-here, lowest-later, lowest-end}
@@ -15,20 +15,20 @@ use Rattle.depend.proofs.cycles.first_head.Statement.{statement}
 use Rattle.depend.proofs.cycles.first_head.Tie as tie
 
 -- the test of a rule
-abbrev passes : List (List ℕ) → Rule → Bool
-passes known = λ u. crossed (reach known) (u .head)
+abbrev passes : List ℕ → Rule → Bool
+passes names = λ u. crossed (alike names) (u .head)
 
-of-words : (known : List (List ℕ)) (t : List ℤ) (i : ℕ) → crossed (reach known) (atoms (partAt t i)) ≡ passes known (ruleAt t i)
+of-words : (names : List ℕ) (t : List ℤ) (i : ℕ) → crossed (alike names) (atoms (partAt t i)) ≡ passes names (ruleAt t i)
 unfolding ruleAt
-of-words known t i = refl
+of-words names t i = refl
 
 abbrev Inv-loop : tie.InvT-loop
-Inv-loop t known at₀ left₀ number₀ at left number =
+Inv-loop t names at₀ left₀ number₀ at left number =
     ((top : ℕ) × (most : ℕ) × (top ≤ 256) × RulesLie top most t at left) × (number + left ≤ 1025)
-    × (lowest (passes known) number (rulesFrom t at left) ≡ lowest (passes known) 1 (rulesFrom t at₀ left₀))
+    × (lowest (passes names) number (rulesFrom t at left) ≡ lowest (passes names) 1 (rulesFrom t at₀ left₀))
 
 abbrev μ-loop : tie.MeasureT-loop
-μ-loop t known at₀ left₀ number₀ at left number = left
+μ-loop t names at₀ left₀ number₀ at left number = left
 
 loop-holds : tie.Need-loop-holds Inv-loop μ-loop
 loop-holds c =
@@ -53,18 +53,18 @@ crossed-requires c κs =
 
 -- what the rule's test says
 tested : (c : tie.After-crossed Inv-loop μ-loop) → let b = c .before .before .before in
-    passes (b .before .args .known .now) (ruleAt (b .before .args .t .now) (b .loop .at)) ≡ c .crossed .result
+    passes (b .before .args .names .now) (ruleAt (b .before .args .t .now) (b .loop .at)) ≡ c .crossed .result
 tested c =
     let b = c .before .before .before in
     let a = b .before .args in
-    sym (c .crossed .ensures ∙ ap (λ (l : List ℤ). crossed (reach (a .known .now)) (atoms l)) (c .before .part .ensures) ∙ of-words (a .known .now) (a .t .now) (b .loop .at))
+    sym (c .crossed .ensures ∙ ap (λ (l : List ℤ). crossed (alike (a .names .now)) (atoms l)) (c .before .part .ensures) ∙ of-words (a .names .now) (a .t .now) (b .loop .at))
 
 returns : tie.Need-returns Inv-loop μ-loop
 returns c =
     let d = c .before in
     let b = d .before .before .before in
     let a = b .before .args in
-    sym (lowest-here (a .t .now) (b .loop .at) (passes (a .known .now)) (b .loop .number) (b .loop .left) (d .before .before .loop-test .taken) (tested d ∙ c .if1 .taken)) ∙ b .loop .inv .2
+    sym (lowest-here (a .t .now) (b .loop .at) (passes (a .names .now)) (b .loop .number) (b .loop .left) (d .before .before .loop-test .taken) (tested d ∙ c .if1 .taken)) ∙ b .loop .inv .2
 
 past-rule-requires : tie.Need-past-rule-requires Inv-loop μ-loop
 past-rule-requires c κs = lies (c .before .before .before) .0 .aggs .fits
@@ -87,8 +87,8 @@ loop-again c =
     let w = b .loop .inv .0 in (
       (w .0, w .1, w .2, subst (λ (j : ℕ). RulesLie (w .0) (w .1) t j (b .loop .left - 1)) (sym (c .past-rule .ensures)) (lies (d .before .before) .1)),
       omega arith,
-      ap (λ (j : ℕ). lowest (passes (a .known .now)) (b .loop .number + 1) (rulesFrom t j (b .loop .left - 1))) (c .past-rule .ensures)
-          ∙ sym (lowest-later t (b .loop .at) (passes (a .known .now)) (b .loop .number) (b .loop .left) (d .before .before .loop-test .taken) (tested d ∙ c .before .if1 .left))
+      ap (λ (j : ℕ). lowest (passes (a .names .now)) (b .loop .number + 1) (rulesFrom t j (b .loop .left - 1))) (c .past-rule .ensures)
+          ∙ sym (lowest-later t (b .loop .at) (passes (a .names .now)) (b .loop .number) (b .loop .left) (d .before .before .loop-test .taken) (tested d ∙ c .before .if1 .left))
           ∙ b .loop .inv .2,
     )
 
@@ -96,7 +96,7 @@ returns-2 : tie.Need-returns-2 Inv-loop μ-loop
 returns-2 c =
     let b = c .before in
     let a = b .before .args in
-    sym (lowest-end (a .t .now) (b .loop .at) (passes (a .known .now)) (b .loop .number) (b .loop .left) (c .loop-test .left)) ∙ b .loop .inv .2
+    sym (lowest-end (a .t .now) (b .loop .at) (passes (a .names .now)) (b .loop .number) (b .loop .left) (c .loop-test .left)) ∙ b .loop .inv .2
 
 pub first-head-spec : {M : Type 1} → statement M
 first-head-spec =

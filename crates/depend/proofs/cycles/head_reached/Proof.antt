@@ -9,24 +9,24 @@ use lib.ListN.{length, getD, drop}
 use Rattle.meaning.specs.Lists.{any}
 use Rattle.meaning.specs.Program.{Literal}
 use Rattle.layout.specs.Layout.{atoms, literalOf}
-use Rattle.depend.specs.Reach.{reach}
+use Rattle.depend.specs.Circles.{alike}
 use Rattle.depend.specs.Cycles.{returning}
-use Rattle.depend.proofs.Lists.{any-end, any-down, any-all}
+use Rattle.reach.proofs.Lists.{any-end, any-down, any-all}
 use Rattle.depend.proofs.cycles.head_reached.Statement.{statement}
 use Rattle.depend.proofs.cycles.head_reached.Tie as tie
 
 -- the test of a head atom
-abbrev passes : List ℤ → List (List ℕ) → List ℤ → ℕ → Bool
-passes t known l = λ p. any (λ (u : Literal). returning (reach known) p (u .aggregate .elements)) (map (literalOf t) l)
+abbrev passes : List ℤ → List ℕ → List ℤ → ℕ → Bool
+passes t names l = λ p. any (λ (u : Literal). returning (alike names) p (u .aggregate .elements)) (map (literalOf t) l)
 
 abbrev Inv-loop : tie.InvT-loop
-Inv-loop t tb known head l found₀ i₀ found i = (i ≤ length head) × (found ≡ any (passes t known l) (atoms (drop i head)))
+Inv-loop t tb names head l found₀ i₀ found i = (i ≤ length head) × (found ≡ any (passes t names l) (atoms (drop i head)))
 
 abbrev μ-loop : tie.MeasureT-loop
-μ-loop t tb known head l found₀ i₀ found i = i
+μ-loop t tb names head l found₀ i₀ found i = i
 
 loop-holds : tie.Need-loop-holds Inv-loop μ-loop
-loop-holds c = (omega arith, sym (any-end (c .args .head .now) (length (c .args .head .now)) (passes (c .args .t .now) (c .args .known .now) (c .args .l .now)) natAbs (omega arith)))
+loop-holds c = (omega arith, sym (any-end (c .args .head .now) (length (c .args .head .now)) (passes (c .args .t .now) (c .args .names .now) (c .args .l .now)) natAbs (omega arith)))
 
 sub-i : tie.Need-sub-i Inv-loop μ-loop
 sub-i c = omega arith
@@ -47,7 +47,7 @@ loop-again : tie.Need-loop-again Inv-loop μ-loop
 loop-again c =
     let b = c .before .before .before in
     let a = b .before .args in
-    let f = passes (a .t .now) (a .known .now) (a .l .now) in (
+    let f = passes (a .t .now) (a .names .now) (a .l .now) in (
       omega arith,
       ap (λ (x : Bool). x || b .loop .found) (c .literal-reaches .ensures ∙ ap f (c .before .atom .ensures))
           ∙ ap (λ (x : Bool). f (natAbs (getD (a .head .now) (b .loop .i - 1) (pos 0))) || x) (b .loop .inv .1)
@@ -57,7 +57,7 @@ loop-again c =
 returns : tie.Need-returns Inv-loop μ-loop
 returns c =
     let a = c .before .before .args in
-    c .before .loop .inv .1 ∙ any-all (a .head .now) (c .before .loop .i) (passes (a .t .now) (a .known .now) (a .l .now)) natAbs (c .loop-test .left)
+    c .before .loop .inv .1 ∙ any-all (a .head .now) (c .before .loop .i) (passes (a .t .now) (a .names .now) (a .l .now)) natAbs (c .loop-test .left)
 
 pub head-reached-spec : {M : Type 1} → statement M
 head-reached-spec =

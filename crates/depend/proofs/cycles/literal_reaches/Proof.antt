@@ -9,31 +9,32 @@ use lib.ListN.{length, getD, drop}
 use Rattle.meaning.specs.Lists.{any}
 use Rattle.meaning.specs.Program.{Literal}
 use Rattle.layout.specs.Layout.{pairs, pairsAt, startFrom, literalOf}
-use Rattle.depend.specs.Reach.{reach, Elements}
+use Rattle.reach.specs.Arcs.{Elements}
+use Rattle.depend.specs.Circles.{alike}
 use Rattle.depend.specs.Cycles.{returning}
 use Rattle.layout.specs.Layout.{aggregateAt}
-use Rattle.depend.proofs.Lists.{any-end, any-down, any-all}
-use Rattle.depend.proofs.Walk.{elements-laid}
+use Rattle.reach.proofs.Lists.{any-end, any-down, any-all}
+use Rattle.reach.proofs.Walk.{elements-laid}
 use Rattle.depend.proofs.cycles.literal_reaches.Statement.{statement}
 use Rattle.depend.proofs.cycles.literal_reaches.Tie as tie
 
 -- the test of a literal
-abbrev passes : List (List ℕ) → ℕ → Literal → Bool
-passes known p = λ u. returning (reach known) p (u .aggregate .elements)
+abbrev passes : List ℕ → ℕ → Literal → Bool
+passes names p = λ u. returning (alike names) p (u .aggregate .elements)
 
 -- it is that of the aggregate's pairs
-of-pairs : (known : List (List ℕ)) (p : ℕ) (t : List ℤ) (w : ℤ) → returning (reach known) p (pairs (pairsAt t (startFrom t 2 (natAbs w - 1)))) ≡ passes known p (literalOf t w)
+of-pairs : (names : List ℕ) (p : ℕ) (t : List ℤ) (w : ℤ) → returning (alike names) p (pairs (pairsAt t (startFrom t 2 (natAbs w - 1)))) ≡ passes names p (literalOf t w)
 unfolding aggregateAt
-of-pairs known p t w = refl
+of-pairs names p t w = refl
 
 abbrev Inv-loop : tie.InvT-loop
-Inv-loop t tb known l p found₀ i₀ found i = (i ≤ length l) × (found ≡ any (passes known p) (map (literalOf t) (drop i l)))
+Inv-loop t tb names l p found₀ i₀ found i = (i ≤ length l) × (found ≡ any (passes names p) (map (literalOf t) (drop i l)))
 
 abbrev μ-loop : tie.MeasureT-loop
-μ-loop t tb known l p found₀ i₀ found i = i
+μ-loop t tb names l p found₀ i₀ found i = i
 
 loop-holds : tie.Need-loop-holds Inv-loop μ-loop
-loop-holds c = (omega arith, sym (any-end (c .args .l .now) (length (c .args .l .now)) (passes (c .args .known .now) (c .args .p)) (literalOf (c .args .t .now)) (omega arith)))
+loop-holds c = (omega arith, sym (any-end (c .args .l .now) (length (c .args .l .now)) (passes (c .args .names .now) (c .args .p)) (literalOf (c .args .t .now)) (omega arith)))
 
 sub-i : tie.Need-sub-i Inv-loop μ-loop
 sub-i c = omega arith
@@ -65,10 +66,10 @@ loop-again c =
     let a = b .before .args in
     let t = a .t .now in
     let w = getD (a .l .now) (b .loop .i - 1) (pos 0) in
-    let f = passes (a .known .now) (a .p) in (
+    let f = passes (a .names .now) (a .p) in (
       omega arith,
-      ap (λ (x : Bool). x || b .loop .found) (c .element-reaches .ensures ∙ ap (λ (m : List ℤ). returning (reach (a .known .now)) (a .p) (pairs m)) (c .before .elements-of .ensures)
-          ∙ ap (λ (j : ℕ). returning (reach (a .known .now)) (a .p) (pairs (pairsAt t (startFrom t 2 (j - 1))))) (d .atom .ensures) ∙ of-pairs (a .known .now) (a .p) t w)
+      ap (λ (x : Bool). x || b .loop .found) (c .element-reaches .ensures ∙ ap (λ (m : List ℤ). returning (alike (a .names .now)) (a .p) (pairs m)) (c .before .elements-of .ensures)
+          ∙ ap (λ (j : ℕ). returning (alike (a .names .now)) (a .p) (pairs (pairsAt t (startFrom t 2 (j - 1))))) (d .atom .ensures) ∙ of-pairs (a .names .now) (a .p) t w)
           ∙ ap (λ (x : Bool). f (literalOf t w) || x) (b .loop .inv .1)
           ∙ sym (any-down (a .l .now) (b .loop .i) f (literalOf t) (d .before .loop-test .taken) (b .loop .inv .0)),
     )
@@ -76,7 +77,7 @@ loop-again c =
 returns : tie.Need-returns Inv-loop μ-loop
 returns c =
     let a = c .before .before .args in
-    c .before .loop .inv .1 ∙ any-all (a .l .now) (c .before .loop .i) (passes (a .known .now) (a .p)) (literalOf (a .t .now)) (c .loop-test .left)
+    c .before .loop .inv .1 ∙ any-all (a .l .now) (c .before .loop .i) (passes (a .names .now) (a .p)) (literalOf (a .t .now)) (c .loop-test .left)
 
 pub literal-reaches-spec : {M : Type 1} → statement M
 literal-reaches-spec =
