@@ -9,8 +9,8 @@ use Rattle.dock.specs.Dock.{narrow, reported, checkReport}
 use Rattle.dock.proofs.saucepebbly_approve.Statement.{statement}
 use Rattle.dock.proofs.saucepebbly_approve.Tie as tie
 
-approve-requires : tie.Need-approve-requires
-approve-requires c κs = search needs
+approve-with-requires : tie.Need-approve-with-requires
+approve-with-requires c κs = search needs
 
 enum-told : tie.Need-enum-told
 enum-told c = search needs
@@ -36,10 +36,10 @@ write-requires c κs = search needs
 returns : tie.Need-returns
 returns c =
     let a = c .before .before in
-    let old = a .before .before .before .args .report .now in
+    let old = a .before .before .before .before .before .args .report .now in
     record {
-      result = a .approve .result;
-      approving = a .approve .ensures;
+      result = a .approve-with .result;
+      approving = a .approve-with .ensures;
       kind = sym (ap checkKind (c .enum-told .given .1));
       report = sym (ap (λ (r : Checked). checkReport r old) (c .enum-told .given .1));
     }
@@ -47,10 +47,10 @@ returns c =
 returns-2 : tie.Need-returns-2
 returns-2 c =
     let a = c .before .before in
-    let old = a .before .before .before .args .report .now in
+    let old = a .before .before .before .before .before .args .report .now in
     record {
-      result = a .approve .result;
-      approving = a .approve .ensures;
+      result = a .approve-with .result;
+      approving = a .approve-with .ensures;
       kind = sym (ap checkKind (c .enum-told2 .given .1));
       report = sym (ap (λ (r : Checked). checkReport r old) (c .enum-told2 .given .1));
     }
@@ -66,11 +66,11 @@ returns-3 c =
     let m = p .before in
     let f = m .before .before .before in
     let a = f .before .before in
-    let old = a .before .before .before .args .report .now in
+    let old = a .before .before .before .before .before .args .report .now in
     let t = f .checked .given .0 .0 in
     record {
-      result = a .approve .result;
-      approving = a .approve .ensures;
+      result = a .approve-with .result;
+      approving = a .approve-with .ensures;
       kind = sym (ap checkKind (f .checked .given .1));
       report = w .write .ensures
           ∙ ap (λ (k : ℕ). reported k (n .narrowed .result) old) (m .number .ensures)
@@ -82,7 +82,7 @@ pub saucepebbly-approve-spec : {M : Type 1} → statement M
 saucepebbly-approve-spec =
     tie.close
     (tie.spec
-    approve-requires
+    approve-with-requires
     enum-told
     enum-told-2
     enum-known-checked

@@ -6,8 +6,8 @@ use Rattle.dock.specs.Dock.{firstOf, secondOf, thirdOf, reported, withTh
 use Rattle.dock.proofs.saucepebbly_solve.Statement.{statement}
 use Rattle.dock.proofs.saucepebbly_solve.Tie as tie
 
-solve-requires : tie.Need-solve-requires
-solve-requires c κs = search needs
+solve-with-requires : tie.Need-solve-with-requires
+solve-with-requires c κs = search needs
 
 write-requires : tie.Need-write-requires
 write-requires c κs = search needs
@@ -48,13 +48,13 @@ returns c =
     let f = s .before in
     let y = f .before .before .before .before in
     let r = y .before .before .before .before .before in
-    let q = r .solve .result .solved in
-    let old = r .before .before .before .before .before .args .report .now in
+    let q = r .solve-with .result .solved in
+    let old = r .before .before .before .before .before .before .before .args .report .now in
     record {
       result = q;
-      records = r .solve .result .whys;
-      solving = r .solve .ensures .0;
-      explaining = r .solve .ensures .1;
+      records = r .solve-with .result .whys;
+      solving = r .solve-with .ensures .0;
+      explaining = r .solve-with .ensures .1;
       kind = c .kind .ensures;
       report = x .write-third .ensures
           ∙ ap (withThird (h .third .result))
@@ -67,7 +67,7 @@ pub saucepebbly-solve-spec : {M : Type 1} → statement M
 saucepebbly-solve-spec =
     tie.close
     (tie.spec
-    solve-requires
+    solve-with-requires
     write-requires
     first-requires
     second-requires

@@ -34,12 +34,12 @@ use Rattle.listing.proofs.list_by.Statement.{statement}
 use Rattle.listing.proofs.list_by.Tie as tie
 
 abbrev Inv-loop : tie.InvT-loop
-Inv-loop t tb lists limit rows₀ room n from₀ reasons₀ number₀ rows from reasons number =
+Inv-loop t tb lists limit rows₀ candidates₀ room n from₀ reasons₀ number₀ rows candidates from reasons number =
     Ready (tb .atoms) limit from × (number ≤ length rows₀ / 256) × (length rows ≡ length rows₀)
     × Done (base (programOf t tb) (tb .atoms)) limit (length rows₀ / 256) rows₀ rows from reasons number
 
 abbrev μ-loop : tie.MeasureT-loop
-μ-loop t tb lists limit rows₀ room n from₀ reasons₀ number₀ rows from reasons number = (limit - from .choices) * suc (tb .atoms) + from .it .depth
+μ-loop t tb lists limit rows₀ candidates₀ room n from₀ reasons₀ number₀ rows candidates from reasons number = (limit - from .choices) * suc (tb .atoms) + from .it .depth
 
 -- ---- names
 
@@ -82,11 +82,11 @@ loop-holds c =
     )
 
 search-by-requires : tie.Need-search-by-requires Inv-loop μ-loop
-search-by-requires c κs = let s = begun c in (s .pre .0, s .pre .1, c .loop .inv .0)
+search-by-requires c κs = let b = c .before in let s = begun b in (s .pre .0, s .pre .1, b .loop .inv .0)
 
 -- what the search handed back
-searched : (r : tie.After-search-by Inv-loop μ-loop) → let b = r .before in Searched (P b) (lim b) (stateOf (b .loop .from) (b .loop .reasons) (b .loop .inv .3 .skipped)) (r .search-by .result)
-searched r = r .search-by .ensures (r .before .loop .inv .3 .skipped)
+searched : (r : tie.After-search-by Inv-loop μ-loop) → let b = r .before .before in Searched (P b) (lim b) (stateOf (b .loop .from) (b .loop .reasons) (b .loop .inv .3 .skipped)) (r .search-by .result)
+searched r = r .search-by .ensures (r .before .before .loop .inv .3 .skipped)
 
 enum-told : tie.Need-enum-told Inv-loop μ-loop
 enum-told c = search needs
@@ -95,13 +95,13 @@ report-requires : tie.Need-report-requires Inv-loop μ-loop
 report-requires c κs = search needs
 
 same-length : tie.Need-same-length Inv-loop μ-loop
-same-length c = let b = c .before .before .before .before .before in b .loop .inv .2
+same-length c = let b = c .before .before .before .before .before .before in b .loop .inv .2
 
 returns : tie.Need-returns Inv-loop μ-loop
 returns c =
     let e = c .before in
     let r = e .before .before .before in
-    let b = r .before in
+    let b = r .before .before in
     let D = b .loop .inv .3 in
     let S = searched r in
     let h = r .search-by .result in
@@ -116,13 +116,13 @@ report-requires-2 : tie.Need-report-requires-2 Inv-loop μ-loop
 report-requires-2 c κs = search needs
 
 same-length-2 : tie.Need-same-length-2 Inv-loop μ-loop
-same-length-2 c = let b = c .before .before .before .before .before in b .loop .inv .2
+same-length-2 c = let b = c .before .before .before .before .before .before in b .loop .inv .2
 
 returns-2 : tie.Need-returns-2 Inv-loop μ-loop
 returns-2 c =
     let e = c .before in
     let r = e .before .before .before in
-    let b = r .before in
+    let b = r .before .before in
     let D = b .loop .inv .3 in
     let S = searched r in
     let h = r .search-by .result in
@@ -137,13 +137,13 @@ report-requires-3 : tie.Need-report-requires-3 Inv-loop μ-loop
 report-requires-3 c κs = search needs
 
 same-length-3 : tie.Need-same-length-3 Inv-loop μ-loop
-same-length-3 c = let b = c .before .before .before .before .before .before in b .loop .inv .2
+same-length-3 c = let b = c .before .before .before .before .before .before .before in b .loop .inv .2
 
 returns-3 : tie.Need-returns-3 Inv-loop μ-loop
 returns-3 c =
     let e = c .before .before in
     let r = e .before .before .before in
-    let b = r .before in
+    let b = r .before .before in
     let D = b .loop .inv .3 in
     let S = searched r in
     let h = r .search-by .result in
@@ -154,7 +154,7 @@ returns-3 c =
 -- ---- a plan
 
 abbrev loopAt : tie.Else1 Inv-loop μ-loop → tie.At-loop Inv-loop μ-loop
-loopAt e = e .before .before .before .before .before
+loopAt e = e .before .before .before .before .before .before
 
 abbrev handed : tie.Else1 Inv-loop μ-loop → Halt
 handed e = e .before .before .before .before .search-by .result
