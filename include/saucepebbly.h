@@ -5,9 +5,12 @@
  *
  * For all entries:
  * - A length is the number of elements at its pointer. A pointer whose length is 0 may be null. Each pointer is
- *   aligned as its element type asks (4 bytes for words and reports, 2 for whys, 1 for plans and texts).
+ *   aligned as its element type asks (4 bytes for words, reports and candidates, 2 for whys and lists, 1 for plans and texts).
  * - The buffers of one call must not overlap, but for two that are only read (declared const). Nothing else is asked:
  *   every content is allowed, and a call reads and writes only what it is lent.
+ * - `lists` and `candidates` are memory that a call works in, SAUCEPEBBLY_LISTS and SAUCEPEBBLY_CANDIDATES elements long
+ *   (35,844 and 4,096 bytes) and never null. What they hold before a call does not matter, and nothing is said of what
+ *   they hold after it. One pair serves all calls that do not run in parallel.
  * - At most 16,384 words are looked at: with more the table is refused by its length alone.
  * - Nothing is kept, nothing is allocated, there is no global memory. Calls may run in parallel.
  * - The library calls memcpy and memset, and nothing else of the C library.
@@ -27,6 +30,10 @@
 #ifdef __cplusplus
 extern "C" {
 #endif
+
+/* How many elements the lent memory has. */
+#define SAUCEPEBBLY_LISTS 17922
+#define SAUCEPEBBLY_CANDIDATES 1024
 
 /* What saucepebbly_solve returns. */
 enum {
@@ -78,11 +85,12 @@ enum {
  * atoms on any other result have 0 and 0. If there are fewer places, as for a caller who does not ask (NULL, 0),
  * nothing is written to it. */
 uint32_t saucepebbly_solve(const int32_t *words, size_t words_len, uint32_t limit, uint8_t *plan, size_t plan_len,
-                           uint32_t *report, size_t report_len, uint16_t *whys, size_t whys_len);
+                           uint32_t *report, size_t report_len, uint16_t *whys, size_t whys_len, uint16_t *lists,
+                           uint32_t *candidates);
 
 /* Says whether the plan is an answer set. On a refusal the report gets its number and place. */
 uint32_t saucepebbly_approve(const int32_t *words, size_t words_len, const uint8_t *plan, size_t plan_len,
-                             uint32_t *report, size_t report_len);
+                             uint32_t *report, size_t report_len, uint16_t *lists, uint32_t *candidates);
 
 /* The same as saucepebbly_solve by the plain search, which never jumps: one side of a choice after the other. It is for readers and for
  * comparison, not for the dock: it may open many more choices, and it calls itself to the depth of the choices. Refusals, and where neither

@@ -15,6 +15,8 @@ enum { ATOMS = 256, SIZE = 16 << 20, PAINT = 0xA5 };
 static int32_t words[3 + 6 * ATOMS];
 static uint32_t limit, kind, report[2];
 static uint8_t plan[ATOMS];
+static uint16_t lists[SAUCEPEBBLY_LISTS];
+static uint32_t candidates[SAUCEPEBBLY_CANDIDATES];
 
 static void *plain(void *unused) {
     kind = saucepebbly_plain(words, sizeof words / sizeof *words, limit, plan, sizeof plan, report, 2);
@@ -22,7 +24,7 @@ static void *plain(void *unused) {
 }
 
 static void *jumping(void *unused) {
-    kind = saucepebbly_solve(words, sizeof words / sizeof *words, limit, plan, sizeof plan, report, 2, NULL, 0);
+    kind = saucepebbly_solve(words, sizeof words / sizeof *words, limit, plan, sizeof plan, report, 2, NULL, 0, lists, candidates);
     return unused;
 }
 

@@ -12,6 +12,10 @@
 static uint8_t text[1 << 22];
 static int32_t words[WORDS];
 
+/* The memory that solving works in. */
+static uint16_t lists[SAUCEPEBBLY_LISTS];
+static uint32_t candidates[SAUCEPEBBLY_CANDIDATES];
+
 static int refused(const char *what, const uint32_t *report) {
     printf("%s: refused %u %u\n", what, (unsigned)report[0], (unsigned)report[1]);
     return 1;
@@ -25,7 +29,7 @@ static int read_and_solve(void) {
         return refused("text", report);
     }
     uint32_t count = report[0];
-    uint32_t kind = saucepebbly_solve(words, count, 1000000, plan, sizeof plan, report, 2, NULL, 0);
+    uint32_t kind = saucepebbly_solve(words, count, 1000000, plan, sizeof plan, report, 2, NULL, 0, lists, candidates);
     if (kind == SAUCEPEBBLY_REFUSED) {
         return refused("table", report);
     }

@@ -14,6 +14,8 @@ mod saucepebbly {
             report_len: usize,
             whys: *mut u16,
             whys_len: usize,
+            lists: *mut u16,
+            candidates: *mut u32,
         ) -> u32;
         fn saucepebbly_approve(
             words: *const i32,
@@ -22,7 +24,21 @@ mod saucepebbly {
             plan_len: usize,
             report: *mut u32,
             report_len: usize,
+            lists: *mut u16,
+            candidates: *mut u32,
         ) -> u32;
+    }
+
+    /// The memory that the entries work in. What it holds before a call does not matter.
+    pub struct Memory {
+        lists: [u16; 17922],
+        candidates: [u32; 1024],
+    }
+
+    impl Memory {
+        pub fn new() -> Box<Memory> {
+            Box::new(Memory { lists: [0; 17922], candidates: [0; 1024] })
+        }
     }
 
     #[derive(Debug, PartialEq)]
@@ -49,14 +65,15 @@ mod saucepebbly {
     }
 
     /// The result, and of an answer why each atom is in the plan, atom i at index i - 1.
-    pub fn solve(words: &[i32], limit: u32, plan: &mut [u8]) -> (Solved, [Why; 256]) {
+    pub fn solve(words: &[i32], limit: u32, plan: &mut [u8], memory: &mut Memory) -> (Solved, [Why; 256]) {
         let mut report = [0; 2];
         let mut whys = [Why::default(); 256];
         // Each pointer comes with the length of its own slice, and the entry keeps none of them. A `Why` is two numbers.
         let kind = unsafe {
             let (plan, plan_len) = (plan.as_mut_ptr(), plan.len());
-            let numbers = whys.as_mut_ptr().cast::<u16>();
-            saucepebbly_solve(words.as_ptr(), words.len(), limit, plan, plan_len, report.as_mut_ptr(), report.len(), numbers, 512)
+            let (numbers, report) = (whys.as_mut_ptr().cast::<u16>(), report.as_mut_ptr());
+            let (lists, candidates) = (memory.lists.as_mut_ptr(), memory.candidates.as_mut_ptr());
+            saucepebbly_solve(words.as_ptr(), words.len(), limit, plan, plan_len, report, 2, numbers, 512, lists, candidates)
         };
         let [first, second] = report;
         let solved = match kind {
@@ -68,7 +85,7 @@ mod saucepebbly {
         (solved, whys)
     }
 
-    pub fn approve(words: &[i32], plan: &[u8]) -> Approved {
+    pub fn approve(words: &[i32], plan: &[u8], memory: &mut Memory) -> Approved {
         let mut report = [0; 2];
         // As above.
         let kind = unsafe {
@@ -79,6 +96,8 @@ mod saucepebbly {
                 plan.len(),
                 report.as_mut_ptr(),
                 report.len(),
+                memory.lists.as_mut_ptr(),
+                memory.candidates.as_mut_ptr(),
             )
         };
         match kind {
@@ -89,7 +108,7 @@ mod saucepebbly {
     }
 }
 
-use saucepebbly::{approve, solve, Approved, Solved, Why};
+use saucepebbly::{approve, solve, Approved, Memory, Solved, Why};
 
 const UNTOUCHED: u8 = 7;
 
@@ -126,34 +145,35 @@ fn explain(words: &[i32], whys: &[Why; 256], atom: usize, depth: usize) {
 }
 
 fn main() {
+    let memory = &mut *Memory::new();
     let mut plan = [UNTOUCHED; 300];
-    let (Solved::Answer { choices, skips }, _) = solve(&TABLE, 100, &mut plan) else { panic!("an answer") };
+    let (Solved::Answer { choices, skips }, _) = solve(&TABLE, 100, &mut plan, memory) else { panic!("an answer") };
     assert!(plan[8..].iter().all(|&byte| byte == UNTOUCHED), "bytes past the atoms are kept");
     let atoms: Vec<String> = (1..=8).filter(|&i| plan[i - 1] == 1).map(|i| i.to_string()).collect();
     println!("answer {choices} {skips}: {}", atoms.join(" "));
 
     let before = plan;
-    assert_eq!(approve(&TABLE, &plan), Approved::Yes);
+    assert_eq!(approve(&TABLE, &plan, memory), Approved::Yes);
     plan[3] = 1;
-    assert_eq!(approve(&TABLE, &plan), Approved::No);
+    assert_eq!(approve(&TABLE, &plan, memory), Approved::No);
     plan[3] = 2;
-    let Approved::Refused { number, place } = approve(&TABLE, &plan) else { panic!("2 is no truth value") };
+    let Approved::Refused { number, place } = approve(&TABLE, &plan, memory) else { panic!("2 is no truth value") };
     assert!(plan[..3] == before[..3] && plan[4..] == before[4..], "a check never writes");
     println!("yes, no, refused {number} {place}");
 
     let mut plan = [UNTOUCHED; 300];
-    let (Solved::Limit { choices, skips }, whys) = solve(&TABLE, 5, &mut plan) else { panic!("the limit") };
+    let (Solved::Limit { choices, skips }, whys) = solve(&TABLE, 5, &mut plan, memory) else { panic!("the limit") };
     assert_eq!(whys, [Why::default(); 256], "only an answer has rounds");
     println!("limit {choices} {skips}");
-    let (Solved::None { choices, skips }, _) = solve(&[1, 0, 1, 1, 1, 0, 1, 1, 0], 100, &mut plan) else { panic!("none") };
+    let (Solved::None { choices, skips }, _) = solve(&[1, 0, 1, 1, 1, 0, 1, 1, 0], 100, &mut plan, memory) else { panic!("none") };
     println!("none {choices} {skips}");
     for (words, length) in [(&TABLE[..4], 300), (&TABLE[..], 255), (&[][..], 300)] {
-        let (Solved::Refused { number, place }, _) = solve(words, 100, &mut plan[..length]) else { panic!("a refusal") };
+        let (Solved::Refused { number, place }, _) = solve(words, 100, &mut plan[..length], memory) else { panic!("a refusal") };
         println!("refused {number} {place}");
     }
     assert_eq!(plan, [UNTOUCHED; 300], "only an answer writes the plan");
 
-    let (Solved::Answer { .. }, whys) = solve(&CHAIN, 100, &mut plan) else { panic!("an answer") };
+    let (Solved::Answer { .. }, whys) = solve(&CHAIN, 100, &mut plan, memory) else { panic!("an answer") };
     assert_eq!(whys[1], Why::default(), "atom 2 is false and has no round");
     explain(&CHAIN, &whys, 5, 0);
 }

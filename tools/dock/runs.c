@@ -96,6 +96,18 @@ static int next_number(long *value) {
     return 1;
 }
 
+/* The memory that the entries work in, filled with something else before each call: no result depends on it. */
+static uint16_t lists[SAUCEPEBBLY_LISTS];
+static uint32_t candidates[SAUCEPEBBLY_CANDIDATES];
+
+static void soil(void) {
+    static uint32_t seed = 1;
+    for (int i = 0; i < SAUCEPEBBLY_LISTS; i++)
+        lists[i] = (uint16_t)((seed = seed * 1664525u + 1013904223u) >> 16);
+    for (int i = 0; i < SAUCEPEBBLY_CANDIDATES; i++)
+        candidates[i] = seed = seed * 1664525u + 1013904223u;
+}
+
 static void put_refusal(const uint32_t *report) {
     put_text("refused");
     put_number(report[0]);
@@ -109,7 +121,7 @@ static void put_approved(long count, long room) {
     for (unsigned long code = 0; code < 1ul << words[0]; code++) {
         for (int i = 0; i < words[0]; i++)
             plan[i] = code >> i & 1;
-        if (saucepebbly_approve(words, (size_t)count, plan, (size_t)room, report, 2) == SAUCEPEBBLY_YES) {
+        if (saucepebbly_approve(words, (size_t)count, plan, (size_t)room, report, 2, lists, candidates) == SAUCEPEBBLY_YES) {
             found++;
             sum = mixed(sum, code);
         }
@@ -121,8 +133,10 @@ static void put_approved(long count, long room) {
 
 static void run_table(long count, long room) {
     uint32_t checked[2] = {0, 0}, solved[2] = {0, 0};
-    uint32_t verdict = saucepebbly_approve(words, (size_t)count, plan, (size_t)room, checked, 2);
-    uint32_t kind = saucepebbly_solve(words, (size_t)count, 4294967295u, plan, (size_t)room, solved, 2, (uint16_t *)0, 0);
+    soil();
+    uint32_t verdict = saucepebbly_approve(words, (size_t)count, plan, (size_t)room, checked, 2, lists, candidates);
+    soil();
+    uint32_t kind = saucepebbly_solve(words, (size_t)count, 4294967295u, plan, (size_t)room, solved, 2, (uint16_t *)0, 0, lists, candidates);
     if (kind == SAUCEPEBBLY_ANSWER) {
         put_text("answer");
         put_atoms(plan, room);
@@ -229,8 +243,9 @@ static void run_text(size_t n, size_t places) {
         plan[i] = 0;
     for (int i = 0; i < 512; i++)
         whys[i] = 9;
+    soil();
     if (report[0] == 0)
-        kind = saucepebbly_solve(words, count, limit, plan, 256, report, places, whys, 512);
+        kind = saucepebbly_solve(words, count, limit, plan, 256, report, places, whys, 512, lists, candidates);
     put_text(names[kind]);
     for (size_t i = 0; i < places; i++)
         put_number(report[i]);

@@ -1,6 +1,7 @@
 -- Each promise has one answer only: two results, and two later buffers, that meet it for the same input are equal. Assumes nothing.
 --   solving-unique     of the promise of `solve` on result and plan;  explaining-unique: on rounds and rules;  solution-unique: of the whole
 --                      of demand 2 alone: `meaning-unique` of crate `promises`
+--   lent-unique        two calls of `solve_with` that differ only in what the lent memory holds
 --   approving-unique   of the promise of `approve`
 use mathlib.Core.Path.{_≡_, refl, sym, _∙_, ap, subst}
 use mathlib.Core.Logic.{_≢_, _⊎_, inl, inr}
@@ -81,6 +82,10 @@ module _ (t : List ℤ) (ask : Ask) (old : List ℕ) where
       let c = subst (λ (p : List ℕ). Explaining t (Plan (length old)) p (r .solved) (r′ .whys)) (sym (u .1)) (subst (λ (x : Solved). Explaining t (Plan (length old)) new′ x (r′ .whys)) (sym (u .0)) (b .1)) in
       let w = explaining-unique t ask old new (r .solved) (a .0) (r .whys) (r′ .whys) (a .1) c in
       (λ i. record { solved = u .0 i; whys = w i }, u .1)
+
+  -- what the lent lists and candidates held before and hold after is in no promise: so two calls over any contents give the same
+  pub lent-unique : (lists candidates lists′ candidates′ : List ℕ) (new new′ : List ℕ) (r r′ : Solution) → Promised new r → Promised new′ r′ → (r ≡ r′) × (new ≡ new′)
+  lent-unique lists candidates lists′ candidates′ = solution-unique
 
 -- ---- of the check
 
