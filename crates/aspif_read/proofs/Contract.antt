@@ -30,7 +30,8 @@ use Rattle.aspif_read.specs.declared.survey.Survey.the-variants as surve
 use Rattle.aspif_read.specs.Survey.{lineLength, Fitting, noRules, afterLine, closedOf, surveyFrom}
 use Rattle.aspif_read.specs.Writing.{Put, weighedIn, tableFrom}
 use Rattle.aspif_read.specs.Reads.{Refuses, ReadsAs, ReadsFirst, Reads}
-use Rattle.aspif_read.proofs.Laws.{line-first, lines-none, after-fits, survey-next, survey-closing, survey-beyond, survey-outside, survey-none}
+use Rattle.aspif_read.proofs.LineLaws.{line-first, lines-none}
+use Rattle.aspif_read.proofs.Laws.{after-fits, survey-next, survey-closing, survey-beyond, survey-outside, survey-none}
 use Rattle.aspif_read.proofs.Puts.{put-length}
 use Rattle.aspif_read.proofs.Whole.{totalsOf, surveyed, Short, survey-agree}
 use Rattle.aspif_read.proofs.Sections.{Sums, lines-sum, table-is}

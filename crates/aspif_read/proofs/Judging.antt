@@ -28,8 +28,10 @@ use Rattle.aspif_scan.specs.Marks.{rowFrom, lightFrom}
 use Rattle.aspif_read.specs.declared.judge.Judged.{Judged}
 use Rattle.aspif_read.specs.declared.judge.Judged.the-variants as judged
 use Rattle.aspif_read.specs.Survey.{isWhole, weighs, countOf, fewOf, ownWords, wordsOf, judgedOf}
-use Rattle.aspif_read.proofs.Parsing.{cap, capped, topAll, withinAll, atomsIn, pairAtoms, fine, EndsBy, LowAll, formAtoms}
-use Rattle.aspif_read.proofs.Ranges.{merged-sorted, sorted-none, plainMarks, plain-head, plain-positive, plain-negated, plain-elements, plain-light, weights-cons, pair-atoms-of, weighMarks, weigh-head, weigh-positive, weigh-negated, light-sizes, weigh-elements, weigh-light, within-all, allFine, within-pairs, negative-weight, bound-of}
+use Rattle.aspif_read.proofs.Leaves.{cap, capped, topAll, withinAll, atomsIn, pairAtoms, fine, EndsBy, LowAll, formAtoms}
+use Rattle.aspif_read.proofs.ReadOut.{merged-sorted, sorted-none}
+use Rattle.aspif_read.proofs.StatementRows.{plainMarks, plain-head, plain-positive, plain-negated, plain-elements, plain-light, weights-cons, pair-atoms-of, weighMarks, weigh-head, weigh-positive, weigh-negated, light-sizes, weigh-elements, weigh-light}
+use Rattle.aspif_read.proofs.Ranges.{within-all, allFine, within-pairs, negative-weight, bound-of}
 
 -- ---- a statement's own ranges
 

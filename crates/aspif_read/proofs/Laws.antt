@@ -1,24 +1,21 @@
--- The definitions of `specs/` one step at a time, as the code's loops and arms meet them. Assumes nothing.
+-- Laws of the first pass, and of what a line adds to a section: one case of a definition each. Assumes nothing.
 use mathlib.Core.Path.{_≡_, refl, sym, ap, _∙_, subst}
 use mathlib.Core.Bool.{Bool, true, false, _&&_, not}
-use mathlib.Core.List.{List, [], _∷_, _++_, append-assoc, append-nil}
-use Prim.Native.Nat.{ℕ, zero, suc, _+_, _*_, _-_, _<_, _≤_, min}
-use native.Mathlib.Numerals.{add-one}
+use mathlib.Core.List.{List, [], _∷_}
+use Prim.Native.Nat.{ℕ, zero, suc, _+_, _*_, _≤_}
 use native.Mathlib.Omega.{arith}
-use borrow.Author.Tests.{lt-ltb, le-ltb, leb-true, leb-false, ne-eqb}
+use borrow.Author.Tests.{leb-true, ne-eqb}
 use lib.Dec.{eqb, leb, ltb}
-use lib.ListN.{length, getD, take, drop, drop-of-length-le, length-drop}
-use lib.Seq.{drop-cons, drop-drop}
+use lib.ListN.{length, getD}
 use Rattle.meaning.specs.Lists.{consIf}
 use Rattle.meaning.proofs.Tools.{and-l, and-r}
-use Rattle.text.specs.Text.{pick, ended, runs}
-use Rattle.aspif.specs.Lines.{linesFrom, linesOf}
+use Rattle.text.specs.Text.{pick, runs}
 use Rattle.aspif_scan.specs.declared.kind.Kind.{Kind}
 use Rattle.aspif_scan.specs.declared.kind.Kind.the-variants as kind
 use Rattle.aspif_scan.specs.declared.machine.Stage.{Stage}
 use Rattle.aspif_scan.specs.declared.machine.Stage.the-variants.{Rule, Disjunction, HeadCount, Head, Body, LiteralCount, Literal, Bound, PairCount, Pair, Weight, NormalEnd, WeightEnd, Outside}
 use Rattle.aspif_scan.specs.declared.machine.State.{State}
-use Rattle.aspif_scan.specs.Marks.{rowFrom, weightsFrom, lightFrom}
+use Rattle.aspif_scan.specs.Marks.{rowFrom, lightFrom}
 use Rattle.aspif_scan.specs.Scan.{kindOf}
 use Rattle.aspif_read.specs.declared.judge.Judged.{Judged}
 use Rattle.aspif_read.specs.declared.judge.Judged.the-variants as judged
@@ -27,135 +24,7 @@ use Rattle.aspif_read.specs.declared.survey.Step.the-variants as step
 use Rattle.aspif_read.specs.declared.survey.Survey.the-variants as survey
 use Rattle.aspif_read.specs.Writing.{aggregateWords, ruleWords, statementWords, weighedLine, kindWords, lineWords, kindAggregates, lineAggregates}
 use Rattle.aspif_read.proofs.Bounds.{top-low}
-use Rattle.aspif_read.specs.Survey.{lineLength, isWhole, weighs, countOf, fewOf, ownWords, wordsOf, judgedOf, stateOf, marksOf, judgedLine, nextOf, withRule, inRange, Fitting, afterRule, afterKind, afterLine, closedOf, surveyFrom}
-
--- ---- lines
-
-length-newline : (b : ℕ) (bs : List ℕ) → eqb b 10 ≡ true → lineLength (b ∷ bs) ≡ 0
-unfolding lineLength
-length-newline b bs e = rw (e, lineLength)
-
-length-other : (b : ℕ) (bs : List ℕ) → eqb b 10 ≡ false → lineLength (b ∷ bs) ≡ suc (lineLength bs)
-unfolding lineLength
-length-other b bs e = rw (e, lineLength)
-
-length-none : lineLength [] ≡ 0
-unfolding lineLength
-length-none = refl
-
-pub line-le : (bs : List ℕ) → lineLength bs ≤ length bs
-line-le [] = rw length-none (omega arith)
-line-le (b ∷ bs) = at (eqb b 10) refl (line-le bs)
-  where
-    at : (t : Bool) → eqb b 10 ≡ t → lineLength bs ≤ length bs → lineLength (b ∷ bs) ≤ suc (length bs)
-    at true e h = rw (length-newline b bs e) (omega arith)
-    at false e h = rw (length-other b bs e) (omega arith)
-
-module _ (text : List ℕ) (i : ℕ) (h : i < length text) where
-  pub line-stop : eqb (getD text i 0) 10 ≡ true → lineLength (drop i text) ≡ 0
-  line-stop e = rw (drop-cons text i 0 h) (length-newline (getD text i 0) (drop (suc i) text) e)
-
-  pub line-on : eqb (getD text i 0) 10 ≡ false → lineLength (drop i text) ≡ suc (lineLength (drop (i + 1) text))
-  line-on e = rw (drop-cons text i 0 h, add-one) (length-other (getD text i 0) (drop (suc i) text) e)
-
-pub line-none : (text : List ℕ) (i : ℕ) → length text ≤ i → lineLength (drop i text) ≡ 0
-line-none text i h = rw (drop-of-length-le text h) length-none
-
-lines-newline : (run bs : List ℕ) (b : ℕ) → eqb b 10 ≡ true → linesFrom run (b ∷ bs) ≡ run ∷ linesOf bs
-unfolding linesFrom
-lines-newline run bs b e = rw (e, linesFrom)
-
-lines-other : (run bs : List ℕ) (b : ℕ) → eqb b 10 ≡ false → linesFrom run (b ∷ bs) ≡ linesFrom (run ++ (b ∷ [])) bs
-unfolding linesFrom
-lines-other run bs b e = rw (e, linesFrom)
-
-lines-nil : (run : List ℕ) → linesFrom run [] ≡ ended run []
-unfolding linesFrom
-lines-nil run = refl
-
-pub lines-none : (text : List ℕ) (at : ℕ) → length text ≤ at → linesOf (drop at text) ≡ []
-lines-none text at h = rw (drop-of-length-le text h) (lines-nil [])
-
-ended-some : (run : List ℕ) (rs : List (List ℕ)) → 0 < length run → ended run rs ≡ run ∷ rs
-ended-some [] rs h = absurd (omega arith)
-ended-some (b ∷ run) rs h = refl
-
-snoc-some : (run : List ℕ) (b : ℕ) (n : ℕ) → 0 < length (run ++ (b ∷ [])) + n
-snoc-some [] b n = omega arith
-snoc-some (x ∷ run) b n = omega arith
-
-lines-run : (bs run : List ℕ) → 0 < length run + length bs → linesFrom run bs ≡ (run ++ take (lineLength bs) bs) ∷ linesOf (drop (suc (lineLength bs)) bs)
-lines-run [] run h = rw (lines-nil run, length-none, append-nil run, lines-nil []) (ended-some run [] (omega arith))
-lines-run (b ∷ bs) run h = at (eqb b 10) refl (lines-run bs (run ++ (b ∷ [])) (snoc-some run b (length bs)))
-  where
-    at : (t : Bool) → eqb b 10 ≡ t → linesFrom (run ++ (b ∷ [])) bs ≡ ((run ++ (b ∷ [])) ++ take (lineLength bs) bs) ∷ linesOf (drop (suc (lineLength bs)) bs)
-        → linesFrom run (b ∷ bs) ≡ (run ++ take (lineLength (b ∷ bs)) (b ∷ bs)) ∷ linesOf (drop (suc (lineLength (b ∷ bs))) (b ∷ bs))
-    at true e k = rw (length-newline b bs e, append-nil run) (lines-newline run bs b e)
-    at false e k = rw (length-other b bs e) (lines-other run bs b e ∙ k ∙ ap (λ (l : List ℕ). l ∷ linesOf (drop (suc (lineLength bs)) bs)) (append-assoc run (b ∷ []) (take (lineLength bs) bs)))
-
--- a line, where the next begins, and that this is further on
-module _ (text : List ℕ) (at : ℕ) (h : at < length text) where
-  pub line-inside : at + lineLength (drop at text) ≤ length text
-  line-inside =
-      let k = line-le (drop at text) in
-      let l = length-drop at text in
-      omega arith
-
-  pub line-further : at < min (at + lineLength (drop at text) + 1) (length text)
-  line-further = omega arith
-
-  drop-min : (n : ℕ) → drop (min n (length text)) text ≡ drop n text
-  drop-min n = two (leb n (length text)) refl
-    where
-      two : (b : Bool) → leb n (length text) ≡ b → drop (min n (length text)) text ≡ drop n text
-      two true e = let k : min n (length text) ≡ n = omega (arith, leb-true n (length text) e) in rw k
-      two false e =
-          let k = leb-false n (length text) e in
-          let j : length text ≤ n = omega arith in
-          let i : length text ≤ length text = omega arith in
-          let m : min n (length text) ≡ length text = omega arith in
-          rw (m, drop-of-length-le text j, drop-of-length-le text i)
-
-  pub line-first : linesOf (drop at text) ≡ take (at + lineLength (drop at text) - at) (drop at text) ∷ linesOf (drop (min (at + lineLength (drop at text) + 1) (length text)) text)
-  line-first =
-      let n = lineLength (drop at text) in
-      let e : at + n - at ≡ n = omega arith in
-      let f : at + n + 1 ≡ at + suc n = omega arith in
-      let l = length-drop at text in
-      lines-run (drop at text) [] (omega arith) ∙ (rw (e, drop-min (at + n + 1), f, ← drop-drop (suc n) at text))
-
--- ---- rows
-
-above : (n : ℕ) → 0 < n → n ≡ suc (n - 1)
-above n h = omega arith
-
-module _ (m : List ℕ) (i p : ℕ) (h : p ≤ 256) where
-  left : 257 - p ≡ suc (257 - (p + 1))
-  left = omega arith
-
-  pub row-yes : 0 < getD m i 0 → rowFrom m i p (257 - p) ≡ p ∷ rowFrom m (i + 1) (p + 1) (257 - (p + 1))
-  unfolding rowFrom
-  row-yes t = ap (rowFrom m i p) left ∙ (rw (rowFrom, lt-ltb 0 (getD m i 0) t, add-one i, add-one p))
-
-  pub row-no : getD m i 0 ≤ 0 → rowFrom m i p (257 - p) ≡ rowFrom m (i + 1) (p + 1) (257 - (p + 1))
-  unfolding rowFrom
-  row-no t = ap (rowFrom m i p) left ∙ (rw (rowFrom, le-ltb 0 (getD m i 0) t, add-one i, add-one p))
-
-  pub weights-yes : 0 < getD m i 0 → weightsFrom m i p (257 - p) ≡ record { value = getD m (i + 256) 0; atom = p } ∷ weightsFrom m (i + 1) (p + 1) (257 - (p + 1))
-  unfolding weightsFrom
-  weights-yes t = ap (weightsFrom m i p) left ∙ (rw (weightsFrom, lt-ltb 0 (getD m i 0) t, add-one i, add-one p))
-
-  pub weights-no : getD m i 0 ≤ 0 → weightsFrom m i p (257 - p) ≡ weightsFrom m (i + 1) (p + 1) (257 - (p + 1))
-  unfolding weightsFrom
-  weights-no t = ap (weightsFrom m i p) left ∙ (rw (weightsFrom, le-ltb 0 (getD m i 0) t, add-one i, add-one p))
-
-pub row-none : (m : List ℕ) (i p : ℕ) → 256 < p → rowFrom m i p (257 - p) ≡ []
-unfolding rowFrom
-row-none m i p h = let e : 257 - p ≡ 0 = omega arith in rw e
-
-pub weights-none : (m : List ℕ) (i p : ℕ) → 256 < p → weightsFrom m i p (257 - p) ≡ []
-unfolding weightsFrom
-weights-none m i p h = let e : 257 - p ≡ 0 = omega arith in rw e
+use Rattle.aspif_read.specs.Survey.{isWhole, weighs, countOf, fewOf, ownWords, wordsOf, judgedOf, stateOf, marksOf, judgedLine, nextOf, withRule, inRange, Fitting, afterRule, afterKind, afterLine, closedOf, surveyFrom}
 
 -- ---- a line's judgement
 

@@ -18,7 +18,7 @@ use Rattle.aspif_scan.specs.Marks.{slotOf, literalRow, addOf}
 use Rattle.aspif_read.specs.Survey.{noMarks}
 use Rattle.aspif_read.specs.Writing.{Capped}
 use Rattle.aspif_read.proofs.Bounds.{add-capped, none-at}
-use Rattle.aspif_read.proofs.Parsing.{cap, capped, markAtoms, markLiterals, pairAtoms, markPairs}
+use Rattle.aspif_read.proofs.Leaves.{cap, capped, markAtoms, markLiterals, pairAtoms, markPairs}
 
 -- ---- one cell
 

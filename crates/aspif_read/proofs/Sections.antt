@@ -30,8 +30,11 @@ use Rattle.aspif_scan.specs.Scan.{kindOf}
 use Rattle.aspif_read.specs.Survey.{weighs, countOf, stateOf, marksOf}
 use Rattle.aspif_read.specs.Writing.{aggregateWords, literalWords, ruleWords, ownWords, statementWords, weighedLine, lineWords, lineAggregates, weighedIn as weighedLines, sectionFrom, tableFrom}
 use Rattle.aspif_read.proofs.Laws.{words-kind, aggregates-kind}
-use Rattle.aspif_read.proofs.Parsing.{cap, capped, fine, EndsBy, Agree, AgreeFields}
-use Rattle.aspif_read.proofs.Ranges.{merged-sorted, sorted-none, plainMarks, plain-head, plain-positive, plain-negated, weighMarks, weigh-head, weigh-positive, weigh-negated, weigh-elements, weigh-light, weigh-weights, bound-of}
+use Rattle.aspif_read.proofs.Leaves.{cap, capped, fine, EndsBy, Agree}
+use Rattle.aspif_read.proofs.Parsing.{AgreeFields}
+use Rattle.aspif_read.proofs.ReadOut.{merged-sorted, sorted-none}
+use Rattle.aspif_read.proofs.StatementRows.{plainMarks, plain-head, plain-positive, plain-negated, weighMarks, weigh-head, weigh-positive, weigh-negated, weigh-elements, weigh-light, weigh-weights}
+use Rattle.aspif_read.proofs.Ranges.{bound-of}
 use Rattle.aspif_read.proofs.Judging.{ownRanges}
 use Rattle.aspif_read.proofs.Whole.{By, ends, says, reads, line-by, totalsOf, Short, ranges-split, agreed}
 

@@ -30,7 +30,8 @@ use Rattle.aspif_read.specs.declared.survey.Survey.{Survey}
 use Rattle.aspif_read.specs.declared.survey.Survey.the-variants as survey
 use Rattle.aspif_read.specs.Survey.{isWhole, stateOf, marksOf, judgedOf, judgedLine, withRule, inRange, nextOf, afterLine, closedOf, surveyFrom}
 use Rattle.aspif_read.proofs.Laws.{after-kind, after-rule, after-beyond, after-outside, survey-next, survey-closing, survey-beyond, survey-outside}
-use Rattle.aspif_read.proofs.Parsing.{Agree, AgreeFields, fields-agree}
+use Rattle.aspif_read.proofs.Leaves.{Agree}
+use Rattle.aspif_read.proofs.Parsing.{AgreeFields, fields-agree}
 use Rattle.aspif_read.proofs.Judging.{ownRanges, rule-length, ownLength, highest-append, Judges, form-judged}
 
 -- ---- the kind of a line

@@ -20,7 +20,8 @@ use Rattle.aspif_scan.specs.Marks.{rowFrom, weightsFrom}
 use Rattle.aspif_scan.specs.Scan.{kindOf}
 use Rattle.aspif_read.specs.declared.survey.Totals.{Totals}
 use Rattle.aspif_read.specs.declared.putting.Next.{Next}
-use Rattle.aspif_read.specs.Survey.{weighs, countOf, stateOf, marksOf}
+use Rattle.aspif_read.specs.declared.taking.Taken.{Taken}
+use Rattle.aspif_read.specs.Survey.{weighs, countOf, stateOf, marksOf, judgedLine}
 
 pub record Put (old : List ℤ) (at : ℕ) (words : List ℤ) (to : ℕ) (new : List ℤ) : Type 0 where
   pub ends : to ≡ min (at + length words) (length old)
@@ -57,6 +58,12 @@ statementWords rules before line =
 
 unfoldable pub weighedLine : List ℕ → ℕ
 weighedLine line = weighs (stateOf line .stage)
+
+-- what one call takes from a statement: its judgement, and then nothing is asked of the words; or what it adds to a section
+pub record Takes (judging rules : Bool) (before : ℕ) (line : List ℕ) (old : List ℤ) (at : ℕ) (r : Taken) (new : List ℤ) : Type 0 where
+  pub judges : judging ≡ true → r .judged ≡ judgedLine line
+  pub puts : judging ≡ false → Put old at (statementWords rules before line) (r .at) new
+  pub next : judging ≡ false → r .before ≡ before + weighedLine line
 
 -- ---- a section
 

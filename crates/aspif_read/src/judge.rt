@@ -3,11 +3,11 @@ ghost use mathlib.Core.Path.{_≡_};
 ghost use Prim.Native.Nat.{_≤_};
 ghost use Rattle.aspif_scan.specs.Machine.{startOf, readBy};
 ghost use Rattle.aspif_read.specs.Survey.{isWhole, weighs, ownWords, judgedOf, judgedLine};
+use crate::taking::take;
 use aspif_scan::machine::Stage;
 use aspif_scan::machine::State;
 use aspif_scan::marks::count;
 use aspif_scan::marks::light;
-use aspif_scan::scan::scan;
 
 // A rule by itself: how many words it and its aggregate take, how many aggregates it has, and the highest atom it names.
 pub enum Judged {
@@ -74,7 +74,7 @@ fn own_words(own: usize, elements: usize) -> usize
 }
 
 // The judgement, by the machine's last state and the marks.
-fn judged_by(s: State, marks: &[u32; 1280]) -> Judged
+pub fn judged_by(s: State, marks: &[u32; 1280]) -> Judged
     ensures { λ r. ⌜ r ≡ judgedOf s (now (marks .entry)) ⌝ }
 {
     let stage = s.stage;
@@ -99,7 +99,8 @@ fn judged_by(s: State, marks: &[u32; 1280]) -> Judged
 pub fn judge(line: &[u8]) -> Judged
     ensures { λ r. ⌜ r ≡ judgedLine (now (line .entry)) ⌝ }
 {
-    let mut marks = [0u32; 1280];
-    let s = scan(line, &mut marks);
-    judged_by(s, &marks)
+    let mut none = [0i32; 1];
+    let taken = take(line, true, false, 0, 0, &mut none);
+    let judged = taken.judged;
+    judged
 }

@@ -23,6 +23,7 @@ mod lines;
 mod putting;
 mod reader;
 mod survey;
+mod taking;
 
 // The words of a text whose lines from `from` on have these totals, at the front; how many they are.
 fn write(text: &[u8], from: usize, totals: Totals, words: &mut [i32]) -> usize

@@ -8,13 +8,12 @@ ghost use Rattle.table.specs.Contents.{encodeAtoms, encodeElements};
 ghost use Rattle.aspif.specs.Lines.{linesOf};
 ghost use Rattle.aspif_scan.specs.Marks.{rowFrom, weightsFrom};
 ghost use Rattle.aspif_read.specs.Writing.{Put, Wrote, Capped, aggregateWords, literalWords, ruleWords, statementWords, lineWords, lineAggregates, sectionFrom, weighedLine, weighedIn};
-use crate::judge::aggregates;
 use crate::lines::line_after;
 use crate::lines::line_end;
+use crate::taking::take;
 use aspif_scan::kind::Kind;
 use aspif_scan::kind::kind_of;
 use aspif_scan::marks::count;
-use aspif_scan::scan::scan;
 
 // Where the next word goes, and how many aggregates there were before.
 pub struct Next {
@@ -113,7 +112,7 @@ fn put_elements(marks: &[u32; 1280], at: usize, words: &mut [i32]) -> usize
 }
 
 // The aggregate of a weight body: 1 for sum, 1 for greater, the threshold and the elements after their count.
-fn put_aggregate(bound: usize, marks: &[u32; 1280], at: usize, words: &mut [i32]) -> usize
+pub fn put_aggregate(bound: usize, marks: &[u32; 1280], at: usize, words: &mut [i32]) -> usize
     requires { ⌜ (at ≤ length (now words)) × (bound ≤ 4194306) × Capped (now marks) ⌝ }
     ensures { λ r. ⌜ Put (now (words .entry)) at (aggregateWords bound (now (marks .entry))) r (now (words .exit)) ⌝ }
 {
@@ -137,7 +136,13 @@ fn put_literals(own: usize, before: usize, at: usize, words: &mut [i32]) -> usiz
 }
 
 // A rule: its head, its body, its aggregate literals.
-fn put_rule(own: usize, before: usize, marks: &[u32; 1280], at: usize, words: &mut [i32]) -> usize
+pub fn put_rule(
+    own: usize,
+    before: usize,
+    marks: &[u32; 1280],
+    at: usize,
+    words: &mut [i32],
+) -> usize
     requires { ⌜ (at ≤ length (now words)) × (before ≤ 64) ⌝ }
     ensures { λ r. ⌜ Put (now (words .entry)) at (ruleWords own before (now (marks .entry))) r (now (words .exit)) ⌝ }
 {
@@ -152,25 +157,10 @@ fn put_statement(line: &[u8], rules: bool, before: usize, at: usize, words: &mut
     requires { ⌜ (at ≤ length (now words)) × (before ≤ 64) ⌝ }
     ensures { λ r. ⌜ Wrote (now (words .entry)) at (statementWords rules before (now (line .entry))) (before + weighedLine (now (line .entry))) r (now (words .exit)) ⌝ }
 {
-    let mut marks = [0u32; 1280];
-    let s = scan(line, &mut marks);
-    let stage = s.stage;
-    let own = aggregates(stage);
-    let after = before + own;
-    if rules {
-        let to = put_rule(own, before, &marks, at, words);
-        return Next {
-            at: to,
-            before: after,
-        };
-    }
-    if own == 0 {
-        return Next { at, before: after };
-    }
-    let to = put_aggregate(s.bound as usize, &marks, at, words);
+    let taken = take(line, false, rules, before, at, words);
     Next {
-        at: to,
-        before: after,
+        at: taken.at,
+        before: taken.before,
     }
 }
 

@@ -1,7 +1,7 @@
 -- `aspif_read::read` meets its contract. Assumes nothing.
 use Rattle.aspif_read.proofs.Contract.{text-short, header-no, header-far, header-yes, table-fits, lines-outside, lines-beyond, lines-table, few-aggregates, reads-short, reads-outside, reads-beyond, reads-accepted}
 use Rattle.aspif_read.proofs.Whole.{Short}
-use Rattle.aspif_read.proofs.Laws.{line-le}
+use Rattle.aspif_read.proofs.LineLaws.{line-le}
 use Rattle.aspif_read.specs.Survey.{lineLength}
 use Rattle.aspif.specs.Lines.{linesOf, header as headerLine, readLines, readText}
 use Rattle.meaning.specs.Foundedness.{sameList}

@@ -1,5 +1,5 @@
 -- `aspif_read::lines::line_end` meets its contract. Assumes nothing.
-use Rattle.aspif_read.proofs.Laws.{line-stop, line-on, line-none}
+use Rattle.aspif_read.proofs.LineLaws.{line-stop, line-on, line-none}
 use Rattle.aspif_read.specs.Survey.{lineLength}
 use lib.ListN.{length, drop}
 use borrow.Author.Tests.{eq-eqb, ne-eqb}

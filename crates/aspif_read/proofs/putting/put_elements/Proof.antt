@@ -1,6 +1,6 @@
 -- `aspif_read::putting::put_elements` meets its contract. Assumes nothing.
 use Rattle.aspif_read.proofs.Puts.{put-then, put-none, put-inside, put-long}
-use Rattle.aspif_read.proofs.Laws.{weights-yes, weights-no, weights-none}
+use Rattle.aspif_read.proofs.RowLaws.{weights-yes, weights-no, weights-none}
 use Rattle.table.specs.Contents.{encodeElements}
 use Rattle.aspif_scan.specs.Marks.{weightsFrom}
 use Rattle.aspif_read.specs.Writing.{Put}

@@ -1,6 +1,6 @@
 -- `aspif_read::putting::put_members` meets its contract. Assumes nothing.
 use Rattle.aspif_read.proofs.Puts.{put-then, put-none, put-inside, put-long}
-use Rattle.aspif_read.proofs.Laws.{row-yes, row-no, row-none}
+use Rattle.aspif_read.proofs.RowLaws.{row-yes, row-no, row-none}
 use Rattle.aspif_scan.specs.Marks.{rowFrom}
 use Rattle.aspif_read.specs.Writing.{Put}
 use lib.ListN.{length}

@@ -1,5 +1,5 @@
 -- `aspif_read::putting::put_section` meets its contract. Assumes nothing.
-use Rattle.aspif_read.proofs.Laws.{line-first, line-further, line-inside, lines-none}
+use Rattle.aspif_read.proofs.LineLaws.{line-first, line-further, line-inside, lines-none}
 use Rattle.aspif_read.proofs.Puts.{put-none, put-inside, put-long, section-step}
 use Rattle.aspif_read.specs.Writing.{Put, weighedIn, sectionFrom}
 use Rattle.aspif.specs.Lines.{linesOf}

@@ -1,5 +1,5 @@
 -- `aspif_read::survey::closed` meets its contract. Assumes nothing.
-use Rattle.aspif_read.proofs.Laws.{line-first, lines-none}
+use Rattle.aspif_read.proofs.LineLaws.{line-first, lines-none}
 use Rattle.aspif_read.proofs.survey.closed.Statement.{statement}
 use Rattle.aspif_read.proofs.survey.closed.Tie as tie
 

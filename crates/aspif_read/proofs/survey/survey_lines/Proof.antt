@@ -1,5 +1,6 @@
 -- `aspif_read::survey::survey_lines` meets its contract. Assumes nothing.
-use Rattle.aspif_read.proofs.Laws.{line-first, line-further, line-inside, lines-none, after-fits, survey-next, survey-closing, survey-beyond, survey-outside, survey-none}
+use Rattle.aspif_read.proofs.LineLaws.{line-first, line-further, line-inside, lines-none}
+use Rattle.aspif_read.proofs.Laws.{after-fits, survey-next, survey-closing, survey-beyond, survey-outside, survey-none}
 use Rattle.aspif_read.specs.Survey.{Fitting, noRules, surveyFrom}
 use Rattle.aspif.specs.Lines.{linesOf}
 use lib.ListN.{length, take, drop}
