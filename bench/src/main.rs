@@ -134,7 +134,9 @@ fn main() {
     let no_plans = vec![[vec![2u8], vec![0; 255]].concat(); judged.len()];
     let (_, judged_alike) = compare("judging alone (a check whose first byte is 2)", &approvers(), &judged, &no_plans);
     #[cfg(dock)]
-    stack::print_peaks(&tables);
+    stack::print_peaks(&tables, u32::MAX);
+    #[cfg(dock)]
+    stack::print_peaks(&judged, 100);
     #[cfg(dock)]
     stack::print_judging(&judged);
     #[cfg(not(dock))]

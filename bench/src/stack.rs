@@ -28,7 +28,7 @@ struct Page(#[allow(dead_code)] [u64; 512]);
 
 enum Call<'a> {
     Nothing,
-    Solve(&'a [i32]),
+    Solve(&'a [i32], u32),
     Approve(&'a [i32]),
     Judge(&'a [i32]),
 }
@@ -46,11 +46,11 @@ extern "C" fn run(argument: *mut c_void) -> *mut c_void {
     let mut plan = [0; 256];
     match task.call {
         Call::Nothing => {}
-        Call::Solve(words) => drop(dock::solve(words, u32::MAX, &mut plan, memory)),
+        Call::Solve(words, limit) => drop(dock::solve(words, limit, &mut plan, memory)),
         Call::Approve(words) => drop(dock::approve(words, &plan, memory)),
         Call::Judge(words) => {
             plan[0] = 2;
-            drop(dock::approve(words, &plan, memory))
+            dock::approve(words, &plan, memory);
         }
     }
     std::ptr::null_mut()
@@ -76,13 +76,14 @@ fn overwritten(call: Call) -> usize {
     }
 }
 
-pub fn print_peaks(tables: &[tables::Named]) {
+/// `limit`: of the choices, so that no search takes long; the stack does not grow with them.
+pub fn print_peaks(tables: &[tables::Named], limit: u32) {
     println!("\npeak stack of a call, bytes (the thread's own part taken off)");
     let own = overwritten(Call::Nothing);
     for table in tables {
-        let solve = overwritten(Call::Solve(&table.words)) - own;
+        let solve = overwritten(Call::Solve(&table.words, limit)) - own;
         let approve = overwritten(Call::Approve(&table.words)) - own;
-        println!("{:32} solve {solve:>7}  approve {approve:>7}", table.name);
+        println!("{:36} solve {solve:>7}  approve {approve:>7}", table.name);
     }
 }
 
