@@ -18,28 +18,43 @@ enum Unit {
 }
 
 impl<'a> Search<'a> {
-    /// Passes until one changes nothing, or a conflict ends it.
+    /// Passes until one changes nothing, or a conflict ends it. A pass that has changed nothing stops past the last
+    /// change of the pass before: what comes after it has been looked at since.
     pub fn propagate(&mut self) -> Result<(), Conflict> {
+        let table = self.table;
+        let (mut rules_to, mut atoms_to) = (table.rules.len(), table.atoms);
         loop {
             let defined = self.trail.len();
-            for rule in &self.table.rules {
-                self.rule_steps(rule)?;
-            }
-            for p in 1..=self.table.atoms {
-                if self.values[p] != FALSE {
-                    self.atom_steps(p)?;
+            let mut quiet = 0;
+            for (index, rule) in table.rules.iter().enumerate() {
+                if index >= rules_to {
+                    break;
+                }
+                if self.rule_steps(rule)? {
+                    (quiet, rules_to, atoms_to) = (index + 1, table.rules.len(), table.atoms);
                 }
             }
+            rules_to = quiet;
+            let mut last = 0;
+            for p in 1..=table.atoms {
+                if p > atoms_to {
+                    break;
+                }
+                if self.values[p] != FALSE && self.atom_steps(p)? {
+                    (last, rules_to, atoms_to) = (p, table.rules.len(), table.atoms);
+                }
+            }
+            atoms_to = last;
             if self.trail.len() == defined {
                 return Ok(());
             }
         }
     }
 
-    /// Steps a, b, c.
-    fn rule_steps(&mut self, rule: &Rule) -> Result<(), Conflict> {
+    /// Steps a, b, c; whether an atom was set.
+    fn rule_steps(&mut self, rule: &Rule) -> Result<bool, Conflict> {
         let (p, value) = match self.unit(rule) {
-            Unit::Nothing => return Ok(()),
+            Unit::Nothing => return Ok(false),
             Unit::Conflict => return Err(self.rule_reason(rule)),
             Unit::Head(p) => (p, TRUE),
             Unit::Positive(q) => (q, FALSE),
@@ -48,7 +63,7 @@ impl<'a> Search<'a> {
         // The atom itself is undefined and adds nothing. (In an aggregate it may stand, undefined, too.)
         let reason = self.rule_reason(rule);
         self.set(p, value, reason);
-        Ok(())
+        Ok(true)
     }
 
     /// Nothing if the rule holds, if more than one literal is undefined, or if that one is an aggregate literal.
@@ -105,8 +120,9 @@ impl<'a> Search<'a> {
         }
     }
 
-    /// Steps d and e for p, true or undefined. A second rule that supports it is looked for only where that decides.
-    fn atom_steps(&mut self, p: usize) -> Result<(), Conflict> {
+    /// Steps d and e for p, true or undefined; whether an atom was set. A second rule that supports it is looked for
+    /// only where that decides.
+    fn atom_steps(&mut self, p: usize) -> Result<bool, Conflict> {
         let mut supporting = self.rules_with(p).filter(|rule| self.supports(rule, p));
         match supporting.next() {
             None if self.values[p] == TRUE => {
@@ -117,13 +133,14 @@ impl<'a> Search<'a> {
             None => {
                 let reason = self.witnesses(p);
                 self.set(p, FALSE, reason);
-                Ok(())
+                Ok(true)
             }
             Some(rule) => {
-                if self.values[p] == TRUE && self.is_open(rule) && supporting.next().is_none() {
+                let follows = self.values[p] == TRUE && self.is_open(rule) && supporting.next().is_none();
+                if follows {
                     self.follow(rule, p);
                 }
-                Ok(())
+                Ok(follows)
             }
         }
     }

@@ -45,10 +45,13 @@ pub fn search_by(
     'turns: loop {
         let mut why = levels::empty();
         let mut made: u32 = 1; // the pass at hand counts, also if a conflict ends it
+        let mut rules_to = end; // from there on no rule asks anything now: a pass that has changed nothing stops
+        let mut atoms_to = n; // and no atom above this one
         let out = 'passes: loop {
             let mut changed = false;
+            let mut quiet = first; // from there on the rules passed ask nothing now
             let mut r = first;
-            'rules: while r < end {
+            'rules: while r < rules_to {
                 let at = lists[r] as usize;
                 let s = rules::demand(t, tb, at, &it.values);
                 match s {
@@ -64,12 +67,17 @@ pub fn search_by(
                         reasons[i] = reason;
                         it = it.set(q, v);
                         changed = true;
+                        quiet = r + 1;
+                        rules_to = end;
+                        atoms_to = n;
                     }
                 }
                 r += 1;
             }
+            rules_to = quiet;
+            let mut last: usize = 0; // above it the atoms passed ask nothing now
             let mut p: usize = 1;
-            'atoms: while p <= n {
+            'atoms: while p <= atoms_to {
                 let a = support::asked(t, tb, lists, p, &it.values);
                 match a {
                     Ask::Nothing => {}
@@ -91,6 +99,9 @@ pub fn search_by(
                         reasons[i] = others;
                         it = it.set(p, false);
                         changed = true; // figure 2 of source 001 forgets this one
+                        last = p;
+                        rules_to = end;
+                        atoms_to = n;
                     }
                     Ask::Sole(place) => {
                         let whole = propagation::whole_reason(
@@ -113,10 +124,14 @@ pub fn search_by(
                             }
                         }
                         changed = true;
+                        last = p;
+                        rules_to = end;
+                        atoms_to = n;
                     }
                 }
                 p += 1;
             }
+            atoms_to = last;
             if !changed {
                 break 'passes Outcome::Settled;
             }

@@ -13,6 +13,7 @@ use mathlib.Core.Path.{_≡_}
 use mathlib.Core.Bool.{Bool}
 use mathlib.Core.List.{List, [], _∷_, map}
 use Prim.Native.Nat.{ℕ, zero, suc, _+_, _-_, _*_, _≤_, _<_}
+use lib.Dec.{T}
 use lib.IntN.{ℤ, pos, negsuc, natAbs}
 use lib.Signed.{nonNeg}
 use lib.ListN.{length, getD, take, drop}
@@ -46,6 +47,15 @@ Members top l = (k : ℕ) → k < length l → (1 ≤ natAbs (getD l k (pos 0)))
 pub record Listed (top : ℕ) (t : List ℤ) (i : ℕ) : Type 0 where
   pub fits : pastAt t i ≤ length t
   pub members : Members top (partAt t i)
+
+-- no word of the list is negative
+abbrev pub Plain : List ℤ → Type 0
+Plain l = (k : ℕ) → k < length l → T (nonNeg (getD l k (pos 0)))
+
+-- nor is its count, which stands at i
+pub record PlainAt (t : List ℤ) (i : ℕ) : Type 0 where
+  pub count : T (nonNeg (getD t i (pos 0)))
+  pub words : Plain (partAt t i)
 
 -- ---- aggregates: "function, comparison, threshold, element count, then pairs of value and atom"
 
@@ -98,6 +108,7 @@ pub record AggregateLies (top : ℕ) (t : List ℤ) (i : ℕ) : Type 0 where
   pub lowest : (n : ℕ) → getD t (i + 2) (pos 0) ≡ negsuc n → n ≡ 0
   pub values : (k : ℕ) → k < natAt t (i + 3) → natAt t (i + 4 + 2 * k) ≤ 65535
   pub atoms : (k : ℕ) → k < natAt t (i + 3) → (1 ≤ natAt t (i + 4 + 2 * k + 1)) × (natAt t (i + 4 + 2 * k + 1) ≤ top)
+  pub plain : Plain (pairsAt t i)
 
 -- ---- rules: head atoms, positive body atoms, negated body atoms, aggregate literals
 
@@ -135,6 +146,9 @@ pub record RuleLies (top most : ℕ) (t : List ℤ) (i : ℕ) : Type 0 where
   pub poss : Listed top t (posAt t i)
   pub negs : Listed top t (negAt t i)
   pub aggs : Listed most t (aggsAt t i)
+  pub plainHead : PlainAt t i
+  pub plainPos : PlainAt t (posAt t i)
+  pub plainNeg : PlainAt t (negAt t i)
 
 unfoldable pub RulesLie : ℕ → ℕ → List ℤ → ℕ → ℕ → Type 0
 RulesLie top most t i zero = Unit {0}

@@ -5,7 +5,9 @@
 ghost use mathlib.Core.Path.{_≡_};
 ghost use Prim.Native.Nat.{_+_, _-_, _*_, _≤_, _<_};
 ghost use lib.ListN.{length, getD};
+ghost use lib.Dec.{T};
 ghost use lib.IntN.{natAbs, pos};
+ghost use lib.Signed.{nonNeg};
 ghost use Rattle.layout.specs.Layout.{natAt, partAt, pastAt, functionBy, comparisonBy, pairsAt, pastAggregate, aggsAt, pastRule};
 use meaning::Comparison;
 use meaning::Function;
@@ -76,6 +78,25 @@ pub fn past(t: &[i32], at: usize) -> usize
     ensures { λ r. ⌜ r ≡ pastAt (now (t .entry)) at ⌝ }
 {
     let n = words::atom(t, at);
+    at + 1 + n
+}
+
+// The same list, and the index past it, where the count is known not to be negative.
+pub fn plain_part(t: &[i32], at: usize) -> &[i32]
+    requires { ⌜ (pastAt (now t) at ≤ length (now t)) × T (nonNeg (getD (now t) at (pos 0))) ⌝ }
+    ensures { λ r. ⌜ now r ≡ partAt (now (t .entry)) at ⌝ }
+{
+    let a = at + 1;
+    let n = words::number(t, at);
+    let e = a + n;
+    &t[a..e]
+}
+
+pub fn plain_past(t: &[i32], at: usize) -> usize
+    requires { ⌜ (pastAt (now t) at ≤ length (now t)) × T (nonNeg (getD (now t) at (pos 0))) ⌝ }
+    ensures { λ r. ⌜ r ≡ pastAt (now (t .entry)) at ⌝ }
+{
+    let n = words::number(t, at);
     at + 1 + n
 }
 

@@ -15,11 +15,23 @@ use Rattle.interpretation.specs.State.{Cell}
 use Rattle.interpretation.specs.View.{cellBy, cellValue}
 use Rattle.interpretation.specs.declared.Value.{Value}
 use Rattle.interpretation.specs.declared.Value.the-variants.{True, False, Undefined}
-use Rattle.valuing.specs.Values.{decide}
+use Rattle.valuing.specs.Values.{saysTrue, opposite, decide}
 use Rattle.literals.specs.declared.aggregates.Totals.{Totals}
 use Rattle.literals.specs.Elements.{Marks, passesBy, partOf, addedBy, markedBy, marksOf, marksValue}
 use Rattle.literals.proofs.Pairs.{pairAt, pairs-whole}
 use Rattle.literals.proofs.Amounts.{marks-down}
+
+-- ---- one byte
+
+pub affirms-plain : (b : ℕ) → eqb b 1 ≡ saysTrue (cellValue (cellBy b 0))
+affirms-plain zero = refl
+affirms-plain (suc zero) = refl
+affirms-plain (suc (suc b)) = ne-eqb (suc (suc b)) 1 (λ h. omega arith)
+
+pub affirms-negated : (b : ℕ) → ltb 1 b ≡ saysTrue (opposite (cellValue (cellBy b 0)))
+affirms-negated zero = refl
+affirms-negated (suc zero) = refl
+affirms-negated (suc (suc b)) = lt-ltb 1 (suc (suc b)) (omega arith)
 
 -- ---- one element, by its byte
 

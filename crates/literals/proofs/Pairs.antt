@@ -93,6 +93,7 @@ module _ (t : List ℤ) (i : ℕ) (L : AggregateLies 256 t i) where
         let m = take-most (2 * natAt t (i + 3)) (drop (i + 4) t) in
         let e : i + 4 + 2 * k + 1 ≡ i + 4 + (2 * k + 1) = omega arith in
         subst (λ (z : ℤ). (1 ≤ natAbs z) × (natAbs z ≤ 256)) (ap (λ (j : ℕ). getD t j (pos 0)) e ∙ sym (word (2 * k + 1) (omega arith))) (L .atoms k (omega arith));
+    plain = L .plain;
   }
 
 -- the aggregate of a literal lies where its place says
@@ -120,6 +121,7 @@ module _ (t : List ℤ) (tb : Table) (L : Laid t tb) (l : List ℤ) (M : Members
         lowest = G .lowest;
         values = G .values;
         atoms = λ q g. let b = G .atoms q g in (b .0, omega arith);
+        plain = G .plain;
       }
 
   pub lies-at : (s : ℕ) → s ≡ getD (tb .starts) (j - 1) 0 → AggregateLies 256 t s

@@ -11,6 +11,7 @@ use Prim.Native.Nat.{ℕ, zero, suc, _+_, _*_, _≤_, _<_}
 use lib.Dec.{ltb, leb}
 use lib.IntN.{ℤ, pos, negsuc, natAbs}
 use lib.ListN.{length, getD}
+use Rattle.layout.specs.Layout.{Plain}
 use Rattle.meaning.specs.Aggregates.{values, total}
 use Rattle.meaning.specs.Lists.{any}
 use Rattle.meaning.specs.Program.{Element}
@@ -92,3 +93,4 @@ pub record Paired (w : List ℤ) : Type 0 where
   pub short : length w ≤ 128
   pub values : (k : ℕ) → 2 * k + 1 < length w → natAbs (getD w (2 * k) (pos 0)) ≤ 65535
   pub atoms : (k : ℕ) → 2 * k + 1 < length w → (1 ≤ natAbs (getD w (2 * k + 1) (pos 0))) × (natAbs (getD w (2 * k + 1) (pos 0)) ≤ 256)
+  pub plain : Plain w

@@ -10,6 +10,7 @@ ghost use Rattle.interpretation.specs.View.{cellBy, valued, cellValue};
 ghost use Rattle.layout.specs.Layout.{AggregateLies, aggregateAt, pairs};
 ghost use Rattle.valuing.specs.Values.{between, decide, aggregateValue};
 ghost use Rattle.literals.specs.Elements.{limitOf, passesBy, weightOf, partOf, addedBy, totalsOf, totalsValue, marksOf, marksValue, Paired};
+use crate::byte_at;
 use interpretation::Value;
 use meaning::Comparison;
 use meaning::Function;
@@ -89,15 +90,6 @@ pub fn weight(count: bool, v: usize) -> usize
     if count { 1 } else { v }
 }
 
-// The byte of the value of the atom at index i: 0 undefined, 1 true, any other false.
-pub fn byte_at(w: &[i32], i: usize, values: &[u8; 256]) -> u8
-    requires { ⌜ (i < length (now w)) × (1 ≤ natAbs (getD (now w) i (pos 0))) × (natAbs (getD (now w) i (pos 0)) ≤ 256) ⌝ }
-    ensures { λ r. ⌜ cellBy r 0 ≡ valued (now (values .entry)) (natAbs (getD (now (w .entry)) i (pos 0))) ⌝ }
-{
-    let place = words::atom(w, i) - 1;
-    values[place]
-}
-
 // x or nothing.
 pub fn part(on: bool, x: usize) -> usize
     ensures { λ r. ⌜ r ≡ partOf on x ⌝ }
@@ -125,7 +117,7 @@ pub fn totals_of(w: &[i32], count: bool, values: &[u8; 256]) -> Totals
     while 0 < left {
         left -= 1;
         let i = 2 * left;
-        let x = weight(count, words::atom(w, i));
+        let x = weight(count, words::number(w, i));
         let place = i + 1;
         t = added(byte_at(w, place, values), x, t);
     }
@@ -152,7 +144,7 @@ pub fn some_value(w: &[i32], c: Comparison, k: usize, values: &[u8; 256]) -> Val
     while 0 < left {
         left -= 1;
         let i = 2 * left;
-        if passes(c, k, words::atom(w, i)) {
+        if passes(c, k, words::number(w, i)) {
             let place = i + 1;
             let b = byte_at(w, place, values);
             if b == 1 {
@@ -178,7 +170,7 @@ pub fn each_value(w: &[i32], c: Comparison, k: usize, values: &[u8; 256]) -> Val
         let i = 2 * left;
         let place = i + 1;
         let b = byte_at(w, place, values);
-        if passes(c, k, words::atom(w, i)) {
+        if passes(c, k, words::number(w, i)) {
             passed = (b == 1) | passed;
             passable = (b < 2) | passable;
         } else {

@@ -3,13 +3,15 @@
 ghost use mathlib.Core.Path.{_≡_};
 ghost use mathlib.Core.Bool.{Bool, not};
 ghost use Prim.Native.Nat.{_-_, _≤_, _<_};
+ghost use lib.Dec.{T};
 ghost use lib.IntN.{natAbs, pos};
+ghost use lib.Signed.{nonNeg};
 ghost use lib.ListN.{length, getD};
 ghost use Rattle.levels.specs.Levels.{union};
 ghost use Rattle.levels.specs.View.{row, rows};
-ghost use Rattle.interpretation.specs.View.{valued};
+ghost use Rattle.interpretation.specs.View.{valued, cellBy, cellValue};
 ghost use Rattle.layout.specs.Layout.{Laid, Members, atoms, literalOf, pairs};
-ghost use Rattle.valuing.specs.Values.{saysFalse, signed, aggLit, literalValue};
+ghost use Rattle.valuing.specs.Values.{saysTrue, saysFalse, signed, aggLit, literalValue};
 ghost use Rattle.valuing.specs.Reasons.{reasonAt, elementsReason, reasonOf, reasonsOf};
 ghost use Rattle.literals.specs.Scan.{atomLits, literalLits, firstFalse, atomsReason};
 ghost use Rattle.literals.specs.Elements.{Paired};
@@ -48,6 +50,27 @@ pub fn signed(sign: bool, v: Value) -> Value
         Value::False => Value::True,
         Value::Undefined => Value::Undefined,
     }
+}
+
+// ---- one byte of the values: 0 undefined, 1 true, any other false
+
+// That of the atom at index i of a list.
+pub fn byte_at(w: &[i32], i: usize, values: &[u8; 256]) -> u8
+    requires { ⌜ (i < length (now w)) × (1 ≤ natAbs (getD (now w) i (pos 0))) × (natAbs (getD (now w) i (pos 0)) ≤ 256) × T (nonNeg (getD (now w) i (pos 0))) ⌝ }
+    ensures { λ r. ⌜ cellBy r 0 ≡ valued (now (values .entry)) (natAbs (getD (now (w .entry)) i (pos 0))) ⌝ }
+{
+    let place = words::number(w, i) - 1;
+    values[place]
+}
+
+// Whether it makes the atom true, with the sign false the opposite.
+pub fn affirms(sign: bool, b: u8) -> bool
+    ensures { λ r. ⌜ r ≡ saysTrue (signed sign (cellValue (cellBy b 0))) ⌝ }
+{
+    if sign {
+        return b == 1;
+    }
+    1 < b
 }
 
 // ---- lists of atoms

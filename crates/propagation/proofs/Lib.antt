@@ -3,3 +3,4 @@ pub mod Passing
 pub mod Falls
 pub mod Stepped
 pub mod Handing
+pub mod Quiet

@@ -8,6 +8,7 @@ use mathlib.Core.Bool.{Bool, true, false, not, cond, _||_}
 use mathlib.Core.Option.{Option, none, some}
 use mathlib.Core.List.{List, [], _∷_, _++_, map, List·Memᴰ·head, List·Memᴰ·tail}
 use Rattle.meaning.specs.Lists.{Is, _∈_, any}
+use Rattle.meaning.proofs.Tools.{clash}
 use Rattle.interpretation.specs.State.{Cell, undefined, defined}
 use Rattle.interpretation.specs.View.{cellValue}
 use Rattle.interpretation.specs.declared.Value.{Value}
@@ -59,6 +60,12 @@ pub never-conflict : (p : ℕ) (v : Bool) (d : Step) → isConflict (together (S
 never-conflict p v Nothing = refl
 never-conflict p v Conflict = refl
 never-conflict p v (Set q u) = refl
+
+-- where one literal is not true, all are not
+pub not-conflict : (v : Value) (s : Bool) (p : ℕ) (d : Step) → saysTrue v ≡ false → isConflict (together (askOf v (atomLit s p)) d) ≡ false
+not-conflict True s p d e = absurd (clash refl e)
+not-conflict False s p d e = refl
+not-conflict Undefined s p d e = never-conflict p (not s) d
 
 pub asks-nil : (a : ℕ → Cell) → asks a [] ≡ Conflict
 unfolding asks

@@ -11,10 +11,12 @@ use lib.ListN.{length, getD, drop, drop-of-length-le}
 use lib.Seq.{drop-cons}
 use Rattle.meaning.specs.Program.{Rule}
 use Rattle.levels.specs.Levels.{Levels, noLevels, union}
+use Rattle.meaning.proofs.Tools.{clash}
 use Rattle.interpretation.specs.State.{Cell}
+use Rattle.interpretation.specs.View.{cellBy, cellValue}
 use Rattle.interpretation.specs.declared.Value.{Value}
 use Rattle.interpretation.specs.declared.Value.the-variants.{True, False, Undefined}
-use Rattle.valuing.specs.Values.{Lit, atomLit, aggLit, value}
+use Rattle.valuing.specs.Values.{saysTrue, signed, Lit, atomLit, aggLit, value}
 use Rattle.valuing.specs.Reasons.{reasonsOf}
 use Rattle.layout.specs.Layout.{atoms, partAt, posAt, negAt, aggsAt, ruleAt}
 use Rattle.steps.specs.Steps.{headLits, bodyLits}
@@ -44,6 +46,27 @@ module _ {A : Type 0} (g : ℤ → A) (f : A → Lit) (a : ℕ → Cell) (l : Li
 
   pub asks-end : length l ≤ i → asks a (lits i) ≡ Conflict
   asks-end h = ap (λ (m : List ℤ). asks a (map f (map g m))) (drop-of-length-le l h) ∙ asks-nil a
+
+-- ---- a literal by the byte of its atom's value
+
+pub byte-undefined : (s : Bool) (b : ℕ) → b ≡ 0 → signed s (cellValue (cellBy b 0)) ≡ Undefined
+byte-undefined s b e = ap (λ (x : ℕ). signed s (cellValue (cellBy x 0))) e ∙ at s
+  where
+    at : (s : Bool) → signed s Undefined ≡ Undefined
+    at true = refl
+    at false = refl
+
+pub byte-true : (v : Value) → saysTrue v ≡ true → v ≡ True
+byte-true True e = refl
+byte-true False e = absurd (clash e refl)
+byte-true Undefined e = absurd (clash e refl)
+
+pub byte-false : (s : Bool) (b : ℕ) → (b ≡ 0 → ⊥) → saysTrue (signed s (cellValue (cellBy b 0))) ≡ false → signed s (cellValue (cellBy b 0)) ≡ False
+byte-false s zero n e = absurd (n refl)
+byte-false true (suc zero) n e = absurd (clash refl e)
+byte-false false (suc zero) n e = refl
+byte-false true (suc (suc b)) n e = refl
+byte-false false (suc (suc b)) n e = absurd (clash refl e)
 
 -- ---- atoms of the sign s from index i on, beside those before it: all of these are true but atom q, which is undefined; q is 0 if there is none
 

@@ -8,7 +8,7 @@ ghost use Prim.Native.Nat.{_≤_};
 ghost use lib.ListN.{length};
 ghost use Rattle.levels.specs.View.{row, rows};
 ghost use Rattle.interpretation.specs.View.{valued};
-ghost use Rattle.layout.specs.Layout.{Laid, Members, Listed, RuleLies, partAt, pastAt, ruleAt};
+ghost use Rattle.layout.specs.Layout.{Laid, Members, Plain, Listed, PlainAt, RuleLies, partAt, pastAt, ruleAt};
 ghost use Rattle.valuing.specs.Reasons.{reasonsOf};
 ghost use Rattle.steps.specs.Steps.{headLits, bodyLits};
 ghost use Rattle.literals.specs.Scan.{atomLits, literalLits};
@@ -62,24 +62,23 @@ pub fn is_conflict(d: Step) -> bool
 
 // What a list of atoms asks, taken as literals, plain or negated: one that must become false gets the value that its sign denies.
 pub fn atoms_ask(l: &[i32], sign: bool, values: &[u8; 256]) -> Step
-    requires { ⌜ Members 256 (now l) ⌝ }
+    requires { ⌜ Members 256 (now l) × Plain (now l) ⌝ }
     ensures { λ r. ⌜ r ≡ asks (valued (now (values .entry))) (atomLits sign (now (l .entry))) ⌝ }
 {
     // The undefined atom passed so far, 0 if there is none. It is a number, so that the loop stays in registers.
     let mut only: usize = 0;
     let mut i: usize = 0;
     while i < l.len() {
-        let p = words::atom(l, i);
-        let v = literals::signed(sign, interpretation::value_of(values, p));
-        match v {
-            Value::True => {}
+        let b = literals::byte_at(l, i, values);
+        if b == 0 {
+            if only != 0 {
+                return Step::Nothing;
+            }
+            only = words::number(l, i);
+        } else {
             // The rule holds: it is passed over.
-            Value::False => return Step::Nothing,
-            Value::Undefined => {
-                if only != 0 {
-                    return Step::Nothing;
-                }
-                only = p;
+            if !literals::affirms(sign, b) {
+                return Step::Nothing;
             }
         }
         i += 1;
@@ -92,17 +91,14 @@ pub fn atoms_ask(l: &[i32], sign: bool, values: &[u8; 256]) -> Step
 
 // Whether all atoms of a list are true, taken as literals, plain or negated.
 pub fn all_true(l: &[i32], sign: bool, values: &[u8; 256]) -> bool
-    requires { ⌜ Members 256 (now l) ⌝ }
+    requires { ⌜ Members 256 (now l) × Plain (now l) ⌝ }
     ensures { λ r. ⌜ r ≡ isConflict (asks (valued (now (values .entry))) (atomLits sign (now (l .entry)))) ⌝ }
 {
     let mut i: usize = 0;
     while i < l.len() {
-        let p = words::atom(l, i);
-        let v = literals::signed(sign, interpretation::value_of(values, p));
-        match v {
-            Value::True => {}
-            Value::False => return false,
-            Value::Undefined => return false,
+        let b = literals::byte_at(l, i, values);
+        if !literals::affirms(sign, b) {
+            return false;
         }
         i += 1;
     }
@@ -129,10 +125,10 @@ pub fn literals_ask(t: &[i32], tb: Table, l: &[i32], values: &[u8; 256]) -> Step
 
 // What part of a rule asks, with the list of atoms at `at` too.
 pub fn with_list(so: Step, t: &[i32], at: usize, sign: bool, values: &[u8; 256]) -> Step
-    requires { ⌜ Listed 256 (now t) at ⌝ }
+    requires { ⌜ Listed 256 (now t) at × PlainAt (now t) at ⌝ }
     ensures { λ r. ⌜ r ≡ together so (asks (valued (now (values .entry))) (atomLits sign (partAt (now (t .entry)) at))) ⌝ }
 {
-    let l = layout::part(t, at);
+    let l = layout::plain_part(t, at);
     match so {
         Step::Nothing => Step::Nothing,
         Step::Conflict => atoms_ask(l, sign, values),
@@ -149,14 +145,14 @@ pub fn with_list(so: Step, t: &[i32], at: usize, sign: bool, values: &[u8; 256])
 // What part of a rule asks, with its negated atoms, listed at `at`, and its aggregate literals too. Few rules come this far: apart from `demand`, it
 // keeps that one small and fast.
 pub fn with_rest(so: Step, t: &[i32], tb: Table, at: usize, values: &[u8; 256]) -> Step
-    requires { ⌜ Laid (now t) tb × Listed 256 (now t) at × Listed (tb .aggregates) (now t) (pastAt (now t) at) ⌝ }
+    requires { ⌜ Laid (now t) tb × Listed 256 (now t) at × Listed (tb .aggregates) (now t) (pastAt (now t) at) × PlainAt (now t) at ⌝ }
     ensures { λ r. ⌜ r ≡ together (together so (asks (valued (now (values .entry))) (atomLits false (partAt (now (t .entry)) at)))) (asks (valued (now (values .entry))) (literalLits (now (t .entry)) (partAt (now (t .entry)) (pastAt (now (t .entry)) at)))) ⌝ }
 {
     let n = with_list(so, t, at, false, values);
     if is_nothing(n) {
         return Step::Nothing;
     }
-    let k = layout::past(t, at);
+    let k = layout::plain_past(t, at);
     let aggregates = layout::part(t, k);
     let d = literals_ask(t, tb, aggregates, values);
     together(n, d)
@@ -171,12 +167,12 @@ pub fn demand(t: &[i32], tb: Table, at: usize, values: &[u8; 256]) -> Step
     if is_nothing(h) {
         return Step::Nothing;
     }
-    let i = layout::past(t, at);
+    let i = layout::plain_past(t, at);
     let p = with_list(h, t, i, true, values);
     if is_nothing(p) {
         return Step::Nothing;
     }
-    let j = layout::past(t, i);
+    let j = layout::plain_past(t, i);
     with_rest(p, t, tb, j, values)
 }
 

@@ -1,20 +1,42 @@
--- How the code walks: a list of atoms from index i on, one atom at a time. Assumes nothing.
+-- How the code walks: a list of atoms from index i on, one atom at a time; and how it tests a value by its byte. Assumes nothing.
 use mathlib.Core.Path.{_≡_, refl, sym, ap, _∙_}
 use mathlib.Core.Bool.{Bool, true, false, not, _&&_}
 use mathlib.Core.List.{List, [], _∷_}
-use Prim.Native.Nat.{ℕ, _+_, _≤_, _<_}
+use Prim.Native.Nat.{ℕ, zero, suc, _+_, _≤_, _<_}
 use native.Mathlib.Numerals.{add-one}
 use native.Mathlib.Omega.{arith}
-use lib.Dec.{eqb}
+use lib.Dec.{eqb, ltb}
+use borrow.Author.Tests.{ne-eqb, lt-ltb}
 use lib.IntN.{ℤ, pos, natAbs}
 use lib.ListN.{length, getD, drop, drop-of-length-le}
 use lib.Seq.{drop-cons}
+use Rattle.interpretation.specs.View.{cellBy, cellValue}
 use Rattle.interpretation.specs.declared.Value.{Value}
+use Rattle.interpretation.specs.declared.Value.the-variants.{True, False, Undefined}
 use Rattle.interpretation.specs.declared.Choice.{Choice}
 use Rattle.interpretation.specs.declared.Choice.the-variants as choice
 use Rattle.layout.specs.Layout.{atoms}
 use Rattle.valuing.specs.Values.{saysTrue}
 use Rattle.support.specs.Asking.{sameValue, firstWith, otherTrue}
+
+-- ---- a value by its byte
+
+pub same-true : (b : ℕ) → eqb b 1 ≡ sameValue True (cellValue (cellBy b 0))
+same-true zero = refl
+same-true (suc zero) = refl
+same-true (suc (suc b)) = ne-eqb (suc (suc b)) 1 (λ h. omega arith)
+
+pub same-false : (b : ℕ) → ltb 1 b ≡ sameValue False (cellValue (cellBy b 0))
+same-false zero = refl
+same-false (suc zero) = refl
+same-false (suc (suc b)) = lt-ltb 1 (suc (suc b)) (omega arith)
+
+pub same-undefined : (b : ℕ) → eqb b 0 ≡ sameValue Undefined (cellValue (cellBy b 0))
+same-undefined zero = refl
+same-undefined (suc zero) = ne-eqb 1 0 (λ h. omega arith)
+same-undefined (suc (suc b)) = ne-eqb (suc (suc b)) 0 (λ h. omega arith)
+
+-- ---- a list of atoms
 
 module _ (l : List ℤ) (i : ℕ) where
   abbrev here : ℕ

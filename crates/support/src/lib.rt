@@ -49,17 +49,17 @@ pub fn forced(t: &[i32], tb: Table, at: usize, values: &[u8; 256]) -> Next
     requires { ⌜ Laid (now t) tb × RuleLies (tb .atoms) (tb .aggregates) (now t) at ⌝ }
     ensures { λ r. ⌜ r ≡ forcedOf (valued (now (values .entry))) (ruleAt (now (t .entry)) at) ⌝ }
 {
-    let head = layout::part(t, at);
+    let head = layout::plain_part(t, at);
     if let Choice::Atom(q) = atoms::first_with(head, Value::Undefined, values) {
         return Next::Set(q, false);
     }
-    let second = layout::past(t, at);
-    let plain = layout::part(t, second);
+    let second = layout::plain_past(t, at);
+    let plain = layout::plain_part(t, second);
     if let Choice::Atom(q) = atoms::first_with(plain, Value::Undefined, values) {
         return Next::Set(q, true);
     }
-    let third = layout::past(t, second);
-    let negated = layout::part(t, third);
+    let third = layout::plain_past(t, second);
+    let negated = layout::plain_part(t, third);
     if let Choice::Atom(q) = atoms::first_with(negated, Value::Undefined, values) {
         return Next::Set(q, false);
     }
@@ -83,17 +83,17 @@ pub fn body_witness(t: &[i32], tb: Table, at: usize, values: &[u8; 256]) -> Witn
     requires { ⌜ Laid (now t) tb × RuleLies (tb .atoms) (tb .aggregates) (now t) at ⌝ }
     ensures { λ r. ⌜ r ≡ bodyWitness (valued (now (values .entry))) (now (t .entry)) at ⌝ }
 {
-    let second = layout::past(t, at);
-    let plain = layout::part(t, second);
+    let second = layout::plain_past(t, at);
+    let plain = layout::plain_part(t, second);
     if let Choice::Atom(q) = atoms::first_with(plain, Value::False, values) {
         return Witness::Atom(q);
     }
-    let third = layout::past(t, second);
-    let negated = layout::part(t, third);
+    let third = layout::plain_past(t, second);
+    let negated = layout::plain_part(t, third);
     if let Choice::Atom(q) = atoms::first_with(negated, Value::True, values) {
         return Witness::Atom(q);
     }
-    let fourth = layout::past(t, third);
+    let fourth = layout::plain_past(t, third);
     let aggregates = layout::part(t, fourth);
     false_literal(t, tb, aggregates, values)
 }
@@ -103,7 +103,7 @@ pub fn witness_of(t: &[i32], tb: Table, at: usize, p: usize, values: &[u8; 256])
     requires { ⌜ Laid (now t) tb × RuleLies (tb .atoms) (tb .aggregates) (now t) at ⌝ }
     ensures { λ r. ⌜ r ≡ witnessAt (valued (now (values .entry))) (now (t .entry)) p at ⌝ }
 {
-    let head = layout::part(t, at);
+    let head = layout::plain_part(t, at);
     if let Choice::Atom(q) = atoms::other_true(head, p, values) {
         return Witness::Atom(q);
     }

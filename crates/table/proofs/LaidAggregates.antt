@@ -17,7 +17,7 @@ use Rattle.meaning.specs.declared.Function.{Function}
 use Rattle.meaning.specs.declared.Function.the-variants.{Count, Sum, Min, Max}
 use Rattle.meaning.specs.declared.Comparison.{Comparison}
 use Rattle.meaning.specs.declared.Comparison.the-variants.{Less, Greater}
-use Rattle.layout.specs.Layout.{natAt, functionBy, comparisonBy, pairs, pastAggregate, aggregateAt, startFrom, AggregateLies}
+use Rattle.layout.specs.Layout.{natAt, functionBy, comparisonBy, pairs, pairsAt, Plain, pastAggregate, aggregateAt, startFrom, AggregateLies}
 use Rattle.table.specs.Roles.{within}
 use Rattle.table.specs.Contents.{Each, Ascending, AggregateInRange, functionCode, comparisonCode, encodeElements, encodeAggregate, encodeAll, noAggregate}
 use Rattle.table.specs.Places.{placed}
@@ -56,6 +56,12 @@ elements-back : (es : List Element) → pairs (encodeElements es) ≡ es
 unfolding pairs
 elements-back [] = refl
 elements-back (e ∷ es) = ap {B = List Element} (λ l. e ∷ l) (elements-back es)
+
+plain-elements : (es : List Element) → Plain (encodeElements es)
+plain-elements [] k h = absurd (not-suc-le-zero h)
+plain-elements (e ∷ es) zero h = tt
+plain-elements (e ∷ es) (suc zero) h = tt
+plain-elements (e ∷ es) (suc (suc k)) h = plain-elements es k (le-of-suc-le-suc (le-of-suc-le-suc h))
 
 module _ (t : List ℤ) where
   element-value : (es : List Element) (j k : ℕ) (rest : List ℤ) → drop j t ≡ encodeElements es ++ rest → Each (λ e. e .value ≤ 65535) es
@@ -154,13 +160,16 @@ module _ (t : List ℤ) (i : ℕ) (a : Aggregate) (rest : List ℤ) (d : drop i 
       let q = twice in
       omega arith
 
+  words-are : pairsAt t i ≡ encodeElements (a .elements)
+  words-are = ap (λ (n : ℕ). take n (drop (i + 4) t)) twice ∙ at-take t (i + 4) (encodeElements (a .elements)) rest d4
+
   pub aggregate-is : aggregateAt t i ≡ a
   unfolding aggregateAt
   aggregate-is = λ s. record {
     function = (ap functionBy word0 ∙ function-back (a .function)) s;
     comparison = (ap comparisonBy word1 ∙ comparison-back (a .comparison)) s;
     threshold = word2 s;
-    elements = (ap pairs (ap (λ (n : ℕ). take n (drop (i + 4) t)) twice ∙ at-take t (i + 4) (encodeElements (a .elements)) rest d4) ∙ elements-back (a .elements)) s;
+    elements = (ap pairs words-are ∙ elements-back (a .elements)) s;
   }
 
   pub aggregate-lies : (top : ℕ) → AggregateInRange top a → AggregateLies top t i
@@ -175,6 +184,7 @@ module _ (t : List ℤ) (i : ℕ) (a : Aggregate) (rest : List ℤ) (d : drop i 
         lowest = λ n e. threshold-minus (a .threshold) n (r .threshold) (sym word2 ∙ e);
         values = λ k h. element-value t (a .elements) (i + 4) k rest d4 (r .values) (subst (λ (n : ℕ). k < n) word3 h);
         atoms = λ k h. element-atom t top (a .elements) 0 (i + 4) k rest d4 (r .atoms) (subst (λ (n : ℕ). k < n) word3 h);
+        plain = subst Plain (sym words-are) (plain-elements (a .elements));
       }
 
 -- ---- the aggregates from i on

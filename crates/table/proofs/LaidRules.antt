@@ -5,12 +5,13 @@ use mathlib.Core.List.{List, [], _∷_, _++_, map, append-assoc}
 use Prim.Native.Nat.{ℕ, zero, suc, _+_, _-_, _≤_, _<_}
 use native.Mathlib.Nat.{le-of-suc-le-suc, not-suc-le-zero}
 use native.Mathlib.Omega.{arith}
+use lib.Dec.{T}
 use lib.IntN.{ℤ, pos, natAbs}
 use lib.Signed.{nonNeg}
 use lib.ListN.{length, getD, take, drop}
 use Rattle.meaning.specs.Program.{Aggregate, Rule}
 use Rattle.layout.specs.Layout as layout
-use Rattle.layout.specs.Layout.{natAt, partAt, pastAt, Members, Listed, literalOf, posAt, negAt, aggsAt, pastRule, ruleAt, rulesFrom, RuleLies, RulesLie, aggregateAt, startFrom}
+use Rattle.layout.specs.Layout.{natAt, partAt, pastAt, Members, Listed, Plain, PlainAt, literalOf, posAt, negAt, aggsAt, pastRule, ruleAt, rulesFrom, RuleLies, RulesLie, aggregateAt, startFrom}
 use Rattle.table.specs.Contents.{NumberedRule, Each, Ascending, RuleInRange, encodeList, encodeAtoms, encodeRule, encodeAll, noAggregate, literalBy, ruleBy}
 use Rattle.table.specs.Promises.{ruleFrom}
 use Rattle.table.proofs.Drops.{at-next, at-head, at-skip, at-take, at-within}
@@ -26,6 +27,11 @@ ascending-in top previous (w ∷ l) a (suc k) h = ascending-in top (natAbs w) l 
 pub atoms-back : (l : List ℕ) → map natAbs (map pos l) ≡ l
 atoms-back [] = refl
 atoms-back (x ∷ l) = ap {B = List ℕ} (λ r. x ∷ r) (atoms-back l)
+
+plain-atoms : (l : List ℕ) → Plain (map pos l)
+plain-atoms [] k h = absurd (not-suc-le-zero h)
+plain-atoms (x ∷ l) zero h = tt
+plain-atoms (x ∷ l) (suc k) h = plain-atoms l k (le-of-suc-le-suc h)
 
 module _ (t : List ℤ) (i : ℕ) (l rest : List ℤ) (d : drop i t ≡ encodeList l ++ rest) where
   number : natAt t i ≡ length l
@@ -60,6 +66,13 @@ module _ (t : List ℤ) (i : ℕ) (l rest : List ℤ) (d : drop i t ≡ encodeLi
 module _ (t : List ℤ) (i : ℕ) (l : List ℕ) (rest : List ℤ) (d : drop i t ≡ encodeAtoms l ++ rest) where
   atoms-part : layout.atoms (partAt t i) ≡ l
   atoms-part = ap (map natAbs) (list-part t i (map pos l) rest d) ∙ atoms-back l
+
+  -- none of its words is negative, nor is its count
+  atoms-plain : PlainAt t i
+  atoms-plain = record {
+    count = subst (λ (z : ℤ). T (nonNeg z)) (sym (at-head t i _ _ (pos 0) d)) tt;
+    words = subst Plain (sym (list-part t i (map pos l) rest d)) (plain-atoms l);
+  }
 
   atoms-lie : (top : ℕ) → Ascending top 0 l → Listed top t i
   atoms-lie top a = list-lies t i (map pos l) rest d top (subst (Ascending top 0) (sym (atoms-back l)) a)
@@ -116,6 +129,9 @@ module _ (t : List ℤ) (gs : List Aggregate) (found : (j : ℕ) → j < length 
       poss = atoms-lie t (posAt t i) (r .pos) _ d1 top (g .pos);
       negs = atoms-lie t (negAt t i) (r .neg) _ d2 top (g .neg);
       aggs = list-lies t (aggsAt t i) (r .aggs) rest d3 (length gs) (g .aggs);
+      plainHead = atoms-plain t i (r .head) _ d0;
+      plainPos = atoms-plain t (posAt t i) (r .pos) _ d1;
+      plainNeg = atoms-plain t (negAt t i) (r .neg) _ d2;
     }
 
   -- ---- the rules from i on

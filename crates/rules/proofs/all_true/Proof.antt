@@ -2,19 +2,20 @@
 -- measure is the number of atoms still to come.
 -- Assumes nothing.
 use borrow.Author.Needs.{needs}
+use borrow.Author.Tests.{not-true, not-false}
 use mathlib.Core.Path.{_≡_, refl, sym, ap, _∙_}
-use mathlib.Core.Bool.{not}
 use Prim.Native.Nat.{ℕ, _+_, _-_, _≤_}
 use native.Mathlib.Omega.{arith}
 use lib.IntN.{pos, natAbs}
 use lib.ListN.{length, getD, drop}
-use Rattle.interpretation.specs.View.{valued, cellValue}
+use Rattle.interpretation.specs.State.{Cell}
+use Rattle.interpretation.specs.View.{valued, cellBy, cellValue}
 use Rattle.interpretation.specs.declared.Value.{Value}
 use Rattle.valuing.specs.Values.{signed, atomLit}
 use Rattle.literals.specs.Scan.{atomLits}
 use Rattle.rules.specs.Demand.{askOf, together, asks, isConflict}
-use Rattle.rules.proofs.Asks.{never-conflict}
-use Rattle.rules.proofs.Scanned.{asks-on, asks-end}
+use Rattle.rules.proofs.Asks.{not-conflict}
+use Rattle.rules.proofs.Scanned.{byte-true, asks-on, asks-end}
 use Rattle.rules.proofs.all_true.Statement.{statement}
 use Rattle.rules.proofs.all_true.Tie as tie
 
@@ -27,49 +28,36 @@ abbrev μ-loop : tie.MeasureT-loop
 loop-holds : tie.Need-loop-holds Inv-loop μ-loop
 loop-holds c = (omega arith, refl)
 
-atom-requires : tie.Need-atom-requires Inv-loop μ-loop
-atom-requires c κs = omega arith
+byte-at-requires : tie.Need-byte-at-requires Inv-loop μ-loop
+byte-at-requires c κs =
+    let b = c .before in
+    let h = b .before .pre .0 (b .loop .i) (c .loop-test .taken) in
+    (c .loop-test .taken, h .0, h .1, b .before .pre .1 (b .loop .i) (c .loop-test .taken))
 
-value-of-requires : tie.Need-value-of-requires Inv-loop μ-loop
-value-of-requires c κs = rw (c .atom .ensures) (c .before .before .before .pre _ (c .before .loop-test .taken))
-
-signed-requires : tie.Need-signed-requires Inv-loop μ-loop
-signed-requires c κs = search needs
+affirms-requires : tie.Need-affirms-requires Inv-loop μ-loop
+affirms-requires c κs = search needs
 
 -- whether all are true, the literal at i being v
-ahead : (c : tie.After-signed Inv-loop μ-loop) (v : Value)
-    → c .signed .result ≡ v
-    → let b = c .before .before .before .before in
+ahead : (c : tie.After-byte-at Inv-loop μ-loop) (v : Value)
+    → signed (c .before .before .before .args .sign) (cellValue (cellBy (c .byte-at .result) 0)) ≡ v
+    → let b = c .before .before in
     let a = b .before .args in
     isConflict (asks (valued (a .values .now)) (atomLits (a .sign) (a .l .now)))
     ≡ isConflict (together (askOf v (atomLit (a .sign) (natAbs (getD (a .l .now) (b .loop .i) (pos 0))))) (asks (valued (a .values .now)) (atomLits (a .sign) (drop (b .loop .i + 1) (a .l .now)))))
 ahead c v e =
-    let b = c .before .before .before .before in
+    let b = c .before .before in
     let a = b .before .args in
-    let w = ap (λ (p : ℕ). signed (a .sign) (cellValue (valued (a .values .now) p))) (sym (c .before .before .atom .ensures))
-    ∙ ap (signed (a .sign)) (sym (c .before .value-of .ensures))
-    ∙ sym (c .signed .ensures)
-    ∙ e in
-    sym (b .loop .inv .1) ∙ ap isConflict (asks-on natAbs (atomLit (a .sign)) (valued (a .values .now)) (a .l .now) (b .loop .i) (c .before .before .before .loop-test .taken) v w)
-
-enum-told : tie.Need-enum-told Inv-loop μ-loop
-enum-told c = search needs
-
-enum-told-2 : tie.Need-enum-told-2 Inv-loop μ-loop
-enum-told-2 c = search needs
-
-enum-told-3 : tie.Need-enum-told-3 Inv-loop μ-loop
-enum-told-3 c = search needs
+    let w = ap (λ (x : Cell). signed (a .sign) (cellValue x)) (sym (c .byte-at .ensures)) ∙ e in
+    sym (b .loop .inv .1) ∙ ap isConflict (asks-on natAbs (atomLit (a .sign)) (valued (a .values .now)) (a .l .now) (b .loop .i) (c .before .loop-test .taken) v w)
 
 returns : tie.Need-returns Inv-loop μ-loop
-returns c = sym (ahead (c .before .before) _ (c .enum-told2 .given .1))
-
-returns-2 : tie.Need-returns-2 Inv-loop μ-loop
-returns-2 c =
-    let b = c .before .before .before .before .before .before in
+returns c =
+    let d = c .before .before in
+    let b = d .before .before in
     let a = b .before .args in
-    sym (ahead (c .before .before) _ (c .enum-told3 .given .1)
-    ∙ never-conflict (natAbs (getD (a .l .now) (b .loop .i) (pos 0))) (not (a .sign)) (asks (valued (a .values .now)) (atomLits (a .sign) (drop (b .loop .i + 1) (a .l .now)))))
+    let v = signed (a .sign) (cellValue (cellBy (d .byte-at .result) 0)) in
+    sym (ahead d v refl
+    ∙ not-conflict v (a .sign) (natAbs (getD (a .l .now) (b .loop .i) (pos 0))) (asks (valued (a .values .now)) (atomLits (a .sign) (drop (b .loop .i + 1) (a .l .now)))) (sym (c .before .affirms .ensures) ∙ not-true _ (c .if1 .taken)))
 
 add-i : tie.Need-add-i Inv-loop μ-loop
 add-i c = omega arith
@@ -78,10 +66,12 @@ loop-less : tie.Need-loop-less Inv-loop μ-loop
 loop-less c = omega arith
 
 loop-again : tie.Need-loop-again Inv-loop μ-loop
-loop-again c = (omega arith, sym (ahead (c .before .before) _ (c .enum-told .given .1)))
+loop-again c =
+    let d = c .before .before in
+    (omega arith, sym (ahead d _ (byte-true _ (sym (c .before .affirms .ensures) ∙ not-false _ (c .if1 .left)))))
 
-returns-3 : tie.Need-returns-3 Inv-loop μ-loop
-returns-3 c =
+returns-2 : tie.Need-returns-2 Inv-loop μ-loop
+returns-2 c =
     let b = c .before in
     let a = b .before .args in
     sym (ap isConflict (asks-end natAbs (atomLit (a .sign)) (valued (a .values .now)) (a .l .now) (b .loop .i) (c .loop-test .left))) ∙ b .loop .inv .1
@@ -93,15 +83,10 @@ all-true-spec =
     Inv-loop
     μ-loop
     loop-holds
-    atom-requires
-    value-of-requires
-    signed-requires
-    enum-told
-    enum-told-2
+    byte-at-requires
+    affirms-requires
     returns
-    enum-told-3
-    returns-2
     add-i
     loop-less
     loop-again
-    returns-3)
+    returns-2)

@@ -6,11 +6,13 @@ use mathlib.Core.Path.{_≡_, sym, ap, ap₂, subst, _∙_}
 use mathlib.Core.Bool.{true, false}
 use mathlib.Core.List.{List}
 use Prim.Native.Nat.{ℕ, _≤_}
-use lib.IntN.{ℤ}
-use lib.ListN.{length}
+use lib.Dec.{T}
+use lib.IntN.{ℤ, pos}
+use lib.Signed.{nonNeg}
+use lib.ListN.{length, getD}
 use Rattle.interpretation.specs.State.{Cell}
 use Rattle.interpretation.specs.View.{valued}
-use Rattle.layout.specs.Layout.{Listed, partAt, pastAt, posAt, negAt}
+use Rattle.layout.specs.Layout.{Listed, PlainAt, partAt, pastAt, posAt, negAt}
 use Rattle.layout.proofs.Rounds.{listed-wide}
 use Rattle.literals.specs.Scan.{atomLits, literalLits}
 use Rattle.rules.specs.declared.Step.{Step}
@@ -28,11 +30,11 @@ table s = s .args .t .now
 
 -- ---- the places of the lists
 
-second : (c : tie.After-past) → c .past .result ≡ posAt (table (c .before .before .before .before)) (c .before .before .before .before .args .at)
-second c = c .past .ensures
+second : (c : tie.After-plain-past) → c .plain-past .result ≡ posAt (table (c .before .before .before .before)) (c .before .before .before .before .args .at)
+second c = c .plain-past .ensures
 
-third : (c : tie.After-past2) → let b = c .before .before .before .before in c .past2 .result ≡ negAt (table (b .before .before .before .before)) (b .before .before .before .before .args .at)
-third c = let b = c .before .before .before .before in c .past2 .ensures ∙ ap (pastAt (table (b .before .before .before .before))) (second b)
+third : (c : tie.After-plain-past2) → let b = c .before .before .before .before in c .plain-past2 .result ≡ negAt (table (b .before .before .before .before)) (b .before .before .before .before .args .at)
+third c = let b = c .before .before .before .before in c .plain-past2 .ensures ∙ ap (pastAt (table (b .before .before .before .before))) (second b)
 
 -- ---- what the rule asks so far
 
@@ -49,27 +51,27 @@ so-pos c =
 -- ---- the calls
 
 with-list-requires : tie.Need-with-list-requires
-with-list-requires c κs = listed-wide _ 256 _ _ (c .pre .0 .fewAtoms) (c .pre .1 .heads)
+with-list-requires c κs = (listed-wide _ 256 _ _ (c .pre .0 .fewAtoms) (c .pre .1 .heads), c .pre .1 .plainHead)
 
 is-nothing-requires : tie.Need-is-nothing-requires
 is-nothing-requires c κs = search needs
 
-past-requires : tie.Need-past-requires
-past-requires c κs = search needs
+plain-past-requires : tie.Need-plain-past-requires
+plain-past-requires c κs = let h = c .before .before .before .pre .1 in (h .heads .fits, h .plainHead .count)
 
 with-list-requires-2 : tie.Need-with-list-requires-2
 with-list-requires-2 c κs =
     let s = c .before .before .before .before in
-    subst (Listed 256 (table s)) (sym (second c)) (listed-wide _ 256 _ _ (s .pre .0 .fewAtoms) (s .pre .1 .poss))
+    (subst (Listed 256 (table s)) (sym (second c)) (listed-wide _ 256 _ _ (s .pre .0 .fewAtoms) (s .pre .1 .poss)), subst (PlainAt (table s)) (sym (second c)) (s .pre .1 .plainPos))
 
 is-nothing-requires-2 : tie.Need-is-nothing-requires-2
 is-nothing-requires-2 c κs = search needs
 
-past-requires-2 : tie.Need-past-requires-2
-past-requires-2 c κs =
+plain-past-requires-2 : tie.Need-plain-past-requires-2
+plain-past-requires-2 c κs =
     let b = c .before .before .before in
     let s = b .before .before .before .before in
-    subst (λ (i : ℕ). pastAt (table s) i ≤ length (table s)) (sym (second b)) (s .pre .1 .poss .fits)
+    (subst (λ (i : ℕ). pastAt (table s) i ≤ length (table s)) (sym (second b)) (s .pre .1 .poss .fits), subst (λ (i : ℕ). T (nonNeg (getD (table s) i (pos 0)))) (sym (second b)) (s .pre .1 .plainPos .count))
 
 with-rest-requires : tie.Need-with-rest-requires
 with-rest-requires c κs =
@@ -77,6 +79,7 @@ with-rest-requires c κs =
       s .pre .0,
       subst (Listed 256 (table s)) (sym (third c)) (listed-wide _ 256 _ _ (s .pre .0 .fewAtoms) (s .pre .1 .negs)),
       subst (λ (i : ℕ). Listed (s .args .tb .aggregates) (table s) (pastAt (table s) i)) (sym (third c)) (s .pre .1 .aggs),
+      subst (PlainAt (table s)) (sym (third c)) (s .pre .1 .plainNeg),
     )
 
 -- ---- the answers
@@ -109,10 +112,10 @@ demand-spec =
     with-list-requires
     is-nothing-requires
     returns
-    past-requires
+    plain-past-requires
     with-list-requires-2
     is-nothing-requires-2
     returns-2
-    past-requires-2
+    plain-past-requires-2
     with-rest-requires
     returns-3)

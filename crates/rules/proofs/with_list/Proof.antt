@@ -4,7 +4,7 @@ use mathlib.Core.Path.{_≡_, sym, ap, subst, _∙_}
 use mathlib.Core.List.{List}
 use lib.IntN.{ℤ}
 use Rattle.interpretation.specs.View.{valued}
-use Rattle.layout.specs.Layout.{Members, partAt}
+use Rattle.layout.specs.Layout.{Members, Plain, partAt}
 use Rattle.literals.specs.Scan.{atomLits}
 use Rattle.rules.specs.declared.Step.{Step}
 use Rattle.rules.specs.Demand.{together, asks, isConflict}
@@ -12,21 +12,24 @@ use Rattle.rules.proofs.Asks.{set-conflict, set-other}
 use Rattle.rules.proofs.with_list.Statement.{statement}
 use Rattle.rules.proofs.with_list.Tie as tie
 
-part-requires : tie.Need-part-requires
-part-requires c κs = search needs
+plain-part-requires : tie.Need-plain-part-requires
+plain-part-requires c κs = (c .pre .0 .fits, c .pre .1 .count)
 
 -- the list's members, and what they ask
-members : (c : tie.After-part) → Members 256 (c .part .result .now)
-members c = subst (Members 256) (sym (c .part .ensures)) (c .before .pre .members)
+members : (c : tie.After-plain-part) → Members 256 (c .plain-part .result .now)
+members c = subst (Members 256) (sym (c .plain-part .ensures)) (c .before .pre .0 .members)
 
-abbrev given : tie.After-part → Step
-given c = let a = c .before .args in asks (valued (a .values .now)) (atomLits (a .sign) (c .part .result .now))
+plain : (c : tie.After-plain-part) → Plain (c .plain-part .result .now)
+plain c = subst Plain (sym (c .plain-part .ensures)) (c .before .pre .1 .words)
 
-abbrev due : tie.After-part → Step
+abbrev given : tie.After-plain-part → Step
+given c = let a = c .before .args in asks (valued (a .values .now)) (atomLits (a .sign) (c .plain-part .result .now))
+
+abbrev due : tie.After-plain-part → Step
 due c = let a = c .before .args in asks (valued (a .values .now)) (atomLits (a .sign) (partAt (a .t .now) (a .at)))
 
-same : (c : tie.After-part) → given c ≡ due c
-same c = let a = c .before .args in ap (λ (l : List ℤ). asks (valued (a .values .now)) (atomLits (a .sign) l)) (c .part .ensures)
+same : (c : tie.After-plain-part) → given c ≡ due c
+same c = let a = c .before .args in ap (λ (l : List ℤ). asks (valued (a .values .now)) (atomLits (a .sign) l)) (c .plain-part .ensures)
 
 enum-told : tie.Need-enum-told
 enum-told c = search needs
@@ -35,13 +38,13 @@ enum-told-2 : tie.Need-enum-told-2
 enum-told-2 c = search needs
 
 atoms-ask-requires : tie.Need-atoms-ask-requires
-atoms-ask-requires c κs = members (c .before .before)
+atoms-ask-requires c κs = (members (c .before .before), plain (c .before .before))
 
 enum-told-3 : tie.Need-enum-told-3
 enum-told-3 c = search needs
 
 all-true-requires : tie.Need-all-true-requires
-all-true-requires c κs = members (c .before .before)
+all-true-requires c κs = (members (c .before .before), plain (c .before .before))
 
 -- whether the list's literals are all true
 tested : (c : tie.After-all-true) → c .all-true .result ≡ isConflict (due (c .before .before .before))
@@ -71,4 +74,4 @@ returns-4 c =
     sym (set-other (g .0 .0) (g .0 .1 .0) d (sym (tested (c .before)) ∙ c .if1 .left)) ∙ ap (λ (s : Step). together s d) (sym (g .1))
 
 pub with-list-spec : {M : Type 1} → statement M
-with-list-spec = tie.close (tie.spec part-requires enum-told enum-told-2 atoms-ask-requires enum-told-3 all-true-requires returns returns-2 returns-3 returns-4)
+with-list-spec = tie.close (tie.spec plain-part-requires enum-told enum-told-2 atoms-ask-requires enum-told-3 all-true-requires returns returns-2 returns-3 returns-4)

@@ -16,7 +16,7 @@ use Rattle.rules.proofs.with_rest.Statement.{statement}
 use Rattle.rules.proofs.with_rest.Tie as tie
 
 with-list-requires : tie.Need-with-list-requires
-with-list-requires c κs = c .pre .1
+with-list-requires c κs = (c .pre .1, c .pre .3)
 
 is-nothing-requires : tie.Need-is-nothing-requires
 is-nothing-requires c κs = search needs
@@ -29,17 +29,17 @@ returns c =
     let t = s .args .t .now in
     sym (ap (λ (d : Step). together d (asks a (literalLits t (partAt t (pastAt t (s .args .at)))))) (sym (w .with-list .ensures) ∙ is-nothing _ (sym (c .before .is-nothing .ensures) ∙ c .if1 .taken)))
 
-past-requires : tie.Need-past-requires
-past-requires c κs = c .before .before .before .pre .1 .fits
+plain-past-requires : tie.Need-plain-past-requires
+plain-past-requires c κs = let h = c .before .before .before .pre in (h .1 .fits, h .3 .count)
 
 part-requires : tie.Need-part-requires
 part-requires c κs =
     let s = c .before .before .before .before in
-    subst (λ (i : ℕ). pastAt (s .args .t .now) i ≤ length (s .args .t .now)) (sym (c .past .ensures)) (s .pre .2 .fits)
+    subst (λ (i : ℕ). pastAt (s .args .t .now) i ≤ length (s .args .t .now)) (sym (c .plain-past .ensures)) (s .pre .2 .fits)
 
 -- the aggregate literals
 literals : (c : tie.After-part) → let s = c .before .before .before .before .before in c .part .result .now ≡ partAt (s .args .t .now) (pastAt (s .args .t .now) (s .args .at))
-literals c = let s = c .before .before .before .before .before in c .part .ensures ∙ ap (partAt (s .args .t .now)) (c .before .past .ensures)
+literals c = let s = c .before .before .before .before .before in c .part .ensures ∙ ap (partAt (s .args .t .now)) (c .before .plain-past .ensures)
 
 literals-ask-requires : tie.Need-literals-ask-requires
 literals-ask-requires c κs =
@@ -59,4 +59,4 @@ returns-2 c =
     c .together .ensures ∙ ap₂ together (w .with-list .ensures) (c .before .literals-ask .ensures ∙ ap (λ (l : List ℤ). asks a (literalLits t l)) (literals p))
 
 pub with-rest-spec : {M : Type 1} → statement M
-with-rest-spec = tie.close (tie.spec with-list-requires is-nothing-requires returns past-requires part-requires literals-ask-requires together-requires returns-2)
+with-rest-spec = tie.close (tie.spec with-list-requires is-nothing-requires returns plain-past-requires part-requires literals-ask-requires together-requires returns-2)

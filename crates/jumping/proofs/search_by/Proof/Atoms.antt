@@ -7,7 +7,7 @@ use mathlib.Core.Path.{_≡_, refl, sym, ap, _∙_}
 use mathlib.Core.Logic.{⊎-elim}
 use mathlib.Core.Bool.{Bool, true}
 use mathlib.Core.List.{List}
-use lib.ListN.{length, set}
+use lib.ListN.{length, getD, set}
 use Rattle.interpretation.specs.View.{view, cells}
 use Rattle.interpretation.specs.declared.Interpretation.{Interpretation}
 use Rattle.layout.specs.Layout.{ruleAt, RuleLies, programOf, Laid}
@@ -17,7 +17,7 @@ use Rattle.support.specs.Asking.{forcedOf}
 use Rattle.support.specs.declared.Next.the-variants as next
 use Rattle.support.proofs.Atom.{ask-alone, sole-lies, sole-sets}
 use Rattle.propagation.specs.Propagation.{work}
-use Rattle.propagation.proofs.Passing.{atoms-on}
+use Rattle.propagation.proofs.Quiet.{rules-join, atoms-out}
 use Rattle.propagation.proofs.Stepped.{kept-then, Stepped, moved, atom-nothing, atom-unsets, atom-forces}
 use Rattle.jumping.proofs.search_by.Tie as tie
 use Rattle.jumping.proofs.search_by.Proof.Loops.{Of, start}
@@ -26,12 +26,23 @@ pub atoms-holds : Of tie.Need-atoms-holds
 atoms-holds c =
     let b = c .before in
     let a = start b .args in
-    let e : suc (a .tb .atoms) - 1 ≡ a .tb .atoms = omega arith in
-    (omega arith, omega arith, b .rules .inv .1, (refl, refl), ap (λ (m : ℕ). atomPass (programOf (a .t .now) (a .tb)) m 1 (work (b .rules .it) (b .rules .reasons) (b .rules .changed))) e)
+    let e : suc (a .tb .atoms) - 1 ≡ a .tb .atoms = omega arith in (
+      omega arith,
+      omega arith,
+      b .rules .inv .1,
+      (refl, refl),
+      ap (λ (m : ℕ). atomPass (programOf (a .t .now) (a .tb)) m 1 (work (b .rules .it) (b .rules .reasons) (b .rules .changed))) e,
+      b .rules .inv .5,
+      rules-join (a .t .now) (a .lists .now) (b .rules .it .values) (b .rules .quiet) (b .rules .r) (b .rules .rules-to) (getD (a .lists .now) 1 0) (b .rules .inv .6) (b .rules .inv .7) (c .rules-test .left),
+      b .rules .inv .8,
+      omega arith,
+      atoms-out (a .t .now) (a .tb) (b .rules .it .values) 0 1 (omega arith),
+      b .rules .inv .9,
+    )
 
 -- the atom at hand is one of 1 .. N
 pub within : (c : Of tie.In-atoms) → let a = start (c .before .before .before) .args in Laid (a .t .now) (a .tb) × Listed (a .t .now) (a .tb) (a .lists .now) × (1 ≤ c .before .atoms .p) × (c .before .atoms .p ≤ a .tb .atoms)
-within c = let p = start (c .before .before .before) .pre in (p .0, p .1, c .before .atoms .inv .0, c .atoms-test .taken)
+within c = let p = start (c .before .before .before) .pre in (p .0, p .1, c .before .atoms .inv .0, omega (arith, c .atoms-test .taken, c .before .atoms .inv .7))
 
 pub asked-requires : Of tie.Need-asked-requires
 asked-requires c κs = within (c .before .before)

@@ -1,6 +1,6 @@
 -- The loops of `search_by`: invariants, measures and the places that the proofs name. What is left comes to the same as the whole: of a pass, the
 -- rules from r on, and then the atoms from p on; of step e, what its rule still sets; of the passes, f of them, f being above the number of
--- undefined atoms, which is the measure; of the turns, the start has led to the present state, and their measure is that of the defined search.
+-- undefined atoms, which is the measure; beyond `rules_to` and `atoms_to` nothing is asked, nor by what was passed since the last change; of the turns, the start has led to the present state, and their measure is that of the defined search.
 -- Assumes nothing.
 use Prim.Native.Nat.{ℕ, suc, _+_, _-_, _*_, _≤_, _<_}
 use mathlib.Core.Path.{_≡_}
@@ -19,6 +19,7 @@ use Rattle.steps.specs.Steps.{stepE, rulePass, atomPass, passes, passesMade}
 use Rattle.steps.proofs.Ending.{missing}
 use Rattle.propagation.specs.Propagation.{work}
 use Rattle.propagation.proofs.Passing.{rulesAt}
+use Rattle.propagation.proofs.Quiet.{QuietRules, QuietAtoms}
 use Rattle.propagation.proofs.Stepped.{Kept}
 use Rattle.search.specs.Search.{Problem, Branch, State}
 use Rattle.search.specs.Base.{base}
@@ -34,39 +35,44 @@ abbrev pub config : Interpretation → List (List ℕ) → ℕ → ℕ → ℕ �
 config it reasons choices skips most skipped = record { interpretation = view it; reason = rows reasons; choices = choices; skips = skips; passes = most; skipped = skipped }
 
 abbrev pub Inv-rules : tie.InvT-rules
-Inv-rules t tb lists limit candidates it₀ reasons₀ choices skips most n first end why₀ made changed₀ r₀ it reasons why changed r =
+Inv-rules t tb lists limit candidates it₀ reasons₀ choices skips most n first end why₀ made rules-to₀ atoms-to₀ changed₀ quiet₀ r₀ it reasons why rules-to atoms-to changed quiet r =
     (first ≤ r) × (length reasons ≡ 256) × Kept (view it₀) (view it)
     × (rulePass (rulesAt t lists r end) (work it reasons changed) ≡ rulePass (programOf t tb) (work it₀ reasons₀ false))
+    × (rules-to ≤ end) × (quiet ≤ end) × QuietRules t lists (it .values) quiet r × QuietRules t lists (it .values) rules-to end
+    × (atoms-to ≤ tb .atoms) × QuietAtoms t tb (it .values) atoms-to (suc (tb .atoms))
 
 abbrev pub μ-rules : tie.MeasureT-rules
-μ-rules t tb lists limit candidates it₀ reasons₀ choices skips most n first end why₀ made changed₀ r₀ it reasons why changed r = end - r
+μ-rules t tb lists limit candidates it₀ reasons₀ choices skips most n first end why₀ made rules-to₀ atoms-to₀ changed₀ quiet₀ r₀ it reasons why rules-to atoms-to changed quiet r = end - r
 
 -- step e's sets at the rule at `place`: what it makes of the state at hand is what it makes of the first one
 abbrev pub Inv-sets : tie.InvT-sets
-Inv-sets t tb lists limit candidates it₀ reasons₀ choices skips most n first end why made changed r p place whole it reasons =
+Inv-sets t tb lists limit candidates it₀ reasons₀ choices skips most n first end why made rules-to atoms-to changed quiet r last p place whole it reasons =
     (length reasons ≡ 256) × Kept (view it₀) (view it)
     × (stepE (some (ruleAt t place)) (row whole) (work it reasons true) ≡ stepE (some (ruleAt t place)) (row whole) (work it₀ reasons₀ true))
 
 abbrev pub μ-sets : tie.MeasureT-sets
-μ-sets t tb lists limit candidates it₀ reasons₀ choices skips most n first end why made changed r p place whole it reasons = number (tb .atoms) (missing (cells (it .values) (it .records)))
+μ-sets t tb lists limit candidates it₀ reasons₀ choices skips most n first end why made rules-to atoms-to changed quiet r last p place whole it reasons = number (tb .atoms) (missing (cells (it .values) (it .records)))
 
 abbrev pub Inv-atoms : tie.InvT-atoms
-Inv-atoms t tb lists limit candidates it₀ reasons₀ choices skips most n first end why₀ made changed₀ r p₀ it reasons why changed p =
+Inv-atoms t tb lists limit candidates it₀ reasons₀ choices skips most n first end why₀ made rules-to₀ atoms-to₀ changed₀ quiet r last₀ p₀ it reasons why rules-to atoms-to changed last p =
     (1 ≤ p) × (p ≤ suc (tb .atoms)) × (length reasons ≡ 256) × Kept (view it₀) (view it)
     × (atomPass (programOf t tb) (suc (tb .atoms) - p) p (work it reasons changed) ≡ atomPass (programOf t tb) (tb .atoms) 1 (work it₀ reasons₀ changed₀))
+    × (rules-to ≤ end) × QuietRules t lists (it .values) rules-to end × (atoms-to ≤ tb .atoms) × (last < p)
+    × QuietAtoms t tb (it .values) last p × QuietAtoms t tb (it .values) atoms-to (suc (tb .atoms))
 
 abbrev pub μ-atoms : tie.MeasureT-atoms
-μ-atoms t tb lists limit candidates it₀ reasons₀ choices skips most n first end why₀ made changed₀ r p₀ it reasons why changed p = suc (tb .atoms) - p
+μ-atoms t tb lists limit candidates it₀ reasons₀ choices skips most n first end why₀ made rules-to₀ atoms-to₀ changed₀ quiet r last₀ p₀ it reasons why rules-to atoms-to changed last p = suc (tb .atoms) - p
 
 abbrev pub Inv-passes : tie.InvT-passes
-Inv-passes t tb lists limit candidates it₀ reasons₀ choices skips most n first end why₀ made₀ it reasons why made =
+Inv-passes t tb lists limit candidates it₀ reasons₀ choices skips most n first end why₀ made₀ rules-to₀ atoms-to₀ it reasons why made rules-to atoms-to =
     (length reasons ≡ 256) × Kept (view it₀) (view it)
     × ((f : ℕ) × (b : Bool) × (number (tb .atoms) (missing (cells (it .values) (it .records))) < f) × (made + f ≡ suc (suc (tb .atoms)))
     × (passes (programOf t tb) (tb .atoms) f (work it reasons b) ≡ passes (programOf t tb) (tb .atoms) (suc (tb .atoms)) (work it₀ reasons₀ false))
     × (made + passesMade (programOf t tb) (tb .atoms) f (work it reasons b) ≡ suc (passesMade (programOf t tb) (tb .atoms) (suc (tb .atoms)) (work it₀ reasons₀ false))))
+    × (rules-to ≤ end) × QuietRules t lists (it .values) rules-to end × (atoms-to ≤ tb .atoms) × QuietAtoms t tb (it .values) atoms-to (suc (tb .atoms))
 
 abbrev pub μ-passes : tie.MeasureT-passes
-μ-passes t tb lists limit candidates it₀ reasons₀ choices skips most n first end why₀ made₀ it reasons why made = number (tb .atoms) (missing (cells (it .values) (it .records)))
+μ-passes t tb lists limit candidates it₀ reasons₀ choices skips most n first end why₀ made₀ rules-to₀ atoms-to₀ it reasons why made rules-to atoms-to = number (tb .atoms) (missing (cells (it .values) (it .records)))
 
 abbrev pub Inv-turns : tie.InvT-turns
 Inv-turns t tb lists limit candidates₀ it₀ reasons₀ choices₀ skips₀ most₀ n first end candidates it reasons choices skips most =

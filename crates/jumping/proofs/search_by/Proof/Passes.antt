@@ -22,11 +22,14 @@ use Rattle.outcome.specs.declared.Outcome.the-variants.{Settled, Conflict}
 use Rattle.steps.specs.Steps.{Work, refuted, stepRule, stepAtom, rulePass, atomPass, pass, passes, further, passesMade}
 use Rattle.steps.proofs.Ending.{missing, fewer}
 use Rattle.propagation.specs.Propagation.{work}
-use Rattle.propagation.proofs.Passing.{rulesAt, all-rules, rules-on, rules-none, atoms-on, atoms-none, rules-conflict, atoms-conflict, goOn, passes-on, made-on}
+use Rattle.propagation.proofs.Quiet.{rules-out, rules-fewer, quiet-rules, atoms-out, atoms-join, quiet-atoms}
+use Rattle.propagation.proofs.Passing.{rulesAt, all-rules, rules-on, atoms-on, rules-conflict, atoms-conflict, goOn, passes-on, made-on}
 use Rattle.propagation.proofs.Stepped.{Kept, kept-then, rule-refutes, atom-refutes}
 use Rattle.propagation.proofs.Handing.{Handed, handed, carried}
 use Rattle.jumping.proofs.search_by.Tie as tie
 use Rattle.jumping.proofs.search_by.Proof.Loops.{Of, startOf, turnAt, passAt, start, rulesOf}
+use Rattle.jumping.proofs.search_by.Proof.Rules.{inside}
+use Rattle.jumping.proofs.search_by.Proof.Atoms.{within}
 
 pub empty-requires : Of tie.Need-empty-requires
 empty-requires c κs = search needs
@@ -34,14 +37,35 @@ empty-requires c κs = search needs
 pub passes-holds : Of tie.Need-passes-holds
 passes-holds c =
     let t = c .before .turns in
-    let n = startOf (c .before) .args .tb .atoms in
-    let u = number-top n (missing (cells (t .it .values) (t .it .records))) in
-    (t .inv .3, (refl, refl), (suc n, false, omega arith, omega arith, refl, omega arith))
+    let a = startOf (c .before) .args in
+    let n = a .tb .atoms in
+    let e = getD (a .lists .now) 1 0 in
+    let u = number-top n (missing (cells (t .it .values) (t .it .records))) in (
+      t .inv .3,
+      (refl, refl),
+      (suc n, false, omega arith, omega arith, refl, omega arith),
+      omega arith,
+      rules-out (a .t .now) (a .lists .now) (t .it .values) e e (omega arith),
+      omega arith,
+      atoms-out (a .t .now) (a .tb) (t .it .values) n (suc n) (omega arith),
+    )
 
 pub rules-holds : Of tie.Need-rules-holds
 rules-holds c =
     let s = startOf (c .before .before) in
-    (omega arith, c .passes .inv .0, (refl, refl), ap (λ (P : Program). rulePass P (work (c .passes .it) (c .passes .reasons) false)) (all-rules (s .args .t .now) (s .args .tb) (s .args .lists .now) (s .pre .1)))
+    let a = s .args in
+    let first = getD (a .lists .now) 0 0 in (
+      omega arith,
+      c .passes .inv .0,
+      (refl, refl),
+      ap (λ (P : Program). rulePass P (work (c .passes .it) (c .passes .reasons) false)) (all-rules (a .t .now) (a .tb) (a .lists .now) (s .pre .1)),
+      c .passes .inv .3,
+      s .pre .1 .all .ordered,
+      rules-out (a .t .now) (a .lists .now) (c .passes .it .values) first first (omega arith),
+      c .passes .inv .4,
+      c .passes .inv .5,
+      c .passes .inv .6,
+    )
 
 -- ---- a pass
 
@@ -76,6 +100,17 @@ rest b y x e d =
       counts = omega (arith, e, i .5);
     }
 
+-- from where the rule loop stopped, the rules ask nothing
+rested : (d : Of tie.At-atoms) → let b = rulesOf d in let a = start b .args in let y = work (b .rules .it) (b .rules .reasons) (b .rules .changed) in
+    rulePass (rulesAt (a .t .now) (a .lists .now) (b .rules .r) (getD (a .lists .now) 1 0)) y ≡ y
+rested d =
+    let b = rulesOf d in
+    let p = start b in
+    let a = p .args in
+    let e = getD (a .lists .now) 1 0 in
+    quiet-rules (a .t .now) (a .lists .now) (b .rules .it) (b .rules .reasons) (b .rules .changed) (b .rules .inv .1) e (p .pre .1 .all .fits) (b .rules .r)
+    (rules-fewer (a .t .now) (a .lists .now) (b .rules .it .values) (b .rules .rules-to) (b .rules .r) e (b .rules .inv .7) (d .before .rules-test .left))
+
 -- at the end of a pass
 ended : (c : Of tie.After-atoms) (m : Bool) → c .before .atoms .changed ≡ m → Passed (rulesOf (c .before)) (work (c .before .atoms .it) (c .before .atoms .reasons) m)
 ended c m e =
@@ -85,8 +120,8 @@ ended c m e =
     let n = a .tb .atoms in
     let y = work (b .rules .it) (b .rules .reasons) (b .rules .changed) in
     let z = work (d .atoms .it) (d .atoms .reasons) (d .atoms .changed) in
-    rest b y (work (d .atoms .it) (d .atoms .reasons) m) (rules-none (a .t .now) (a .lists .now) (b .rules .r) (getD (a .lists .now) 1 0) y (d .before .rules-test .left))
-    (sym (d .atoms .inv .4) ∙ atoms-none (program b) n (d .atoms .p) z (c .atoms-test .left) ∙ ap (work (d .atoms .it) (d .atoms .reasons)) e)
+    rest b y (work (d .atoms .it) (d .atoms .reasons) m) (rested d)
+    (sym (d .atoms .inv .4) ∙ quiet-atoms (a .t .now) (a .tb) (d .atoms .it) (d .atoms .reasons) (d .atoms .changed) (d .atoms .inv .2) (d .atoms .atoms-to) (d .atoms .p) (c .atoms-test .left) (d .atoms .inv .10) ∙ ap (work (d .atoms .it) (d .atoms .reasons)) e)
 
 -- a pass that changed something has left fewer atoms undefined
 falls : (c : Of tie.Else1) → let d = c .before .before in let b = rulesOf d in let n = start b .args .tb .atoms in
@@ -120,13 +155,21 @@ pub passes-again : Of tie.Need-passes-again
 passes-again c =
     let d = c .before .before in
     let b = rulesOf d in
+    let a = start b .args in
     let i = passAt b .passes .inv .2 in
     let h = i .2 in
     let l = i .3 in
     let z = ended (c .before) true (not-false _ (c .if1 .left)) in
     let k = falls c in
-    let e = z .counts in
-    (d .atoms .inv .2, stays-on d, (i .0 - 1, true, omega (arith, h, k), omega (arith, h, l), z .goes, omega (arith, e)))
+    let e = z .counts in (
+      d .atoms .inv .2,
+      stays-on d,
+      (i .0 - 1, true, omega (arith, h, k), omega (arith, h, l), z .goes, omega (arith, e)),
+      d .atoms .inv .5,
+      d .atoms .inv .6,
+      omega (arith, d .atoms .inv .8, d .atoms .inv .1),
+      atoms-join (a .t .now) (a .tb) (d .atoms .it .values) (d .atoms .last) (d .atoms .p) (d .atoms .atoms-to) (suc (a .tb .atoms)) (d .atoms .inv .9) (d .atoms .inv .10) (c .before .atoms-test .left),
+    )
 
 -- ---- the three ways out: a rule in conflict, an atom in conflict, a pass that changed nothing
 
@@ -149,7 +192,7 @@ rule-conflict c =
     let s : stepRule rule w ≡ z =
     rule-refutes (b .rules .it) (b .rules .reasons) (b .rules .changed) rule (c .reason .result) (c .reason .ensures) (sym (d .demand .ensures) ∙ x .enum-told2 .given .1) in
     let e : rulePass (rulesAt t l (b .rules .r) end) w ≡ z =
-    rules-on t l (b .rules .r) end w (d .before .before .before .before .rules-test .taken) (start b .pre .1 .all .fits) ∙ ap (rulePass after) s ∙ rules-conflict after z (row (c .reason .result)) refl in
+    rules-on t l (b .rules .r) end w (inside (d .before .before .before .before)) (start b .pre .1 .all .fits) ∙ ap (rulePass after) s ∙ rules-conflict after z (row (c .reason .result)) refl in
     let y = rest b z z e (atoms-conflict (program b) (a .tb .atoms) 1 z (row (c .reason .result)) refl) in
     let first = turnAt b .turns in
     handed t (a .tb) (first .it) (first .reasons) (passAt b .passes .made) (b .rules .it) (b .rules .reasons) (c .reason .result) Conflict (b .rules .changed) (stays b) (y .goes) (omega (arith, y .counts))
@@ -172,8 +215,8 @@ atom-conflict c =
     let s : stepAtom P p w ≡ z =
     atom-refutes (g .atoms .it) (g .atoms .reasons) (g .atoms .changed) t (a .tb) p (c .whole-reason .result) (c .whole-reason .ensures) (sym (d .asked .ensures) ∙ x .enum-told4 .given .1) in
     let e : atomPass P n 1 y ≡ z =
-    sym (g .atoms .inv .4) ∙ atoms-on P n p w (d .before .before .before .atoms-test .taken) ∙ ap (atomPass P (suc n - (p + 1)) (p + 1)) s ∙ atoms-conflict P (suc n - (p + 1)) (p + 1) z C refl in
-    let v = rest b y z (rules-none t (a .lists .now) (b .rules .r) (getD (a .lists .now) 1 0) y (g .before .rules-test .left)) e in
+    sym (g .atoms .inv .4) ∙ atoms-on P n p w (within (d .before .before .before) .3) ∙ ap (atomPass P (suc n - (p + 1)) (p + 1)) s ∙ atoms-conflict P (suc n - (p + 1)) (p + 1) z C refl in
+    let v = rest b y z (rested g) e in
     let first = turnAt b .turns in
     handed t (a .tb) (first .it) (first .reasons) (passAt b .passes .made) (g .atoms .it) (g .atoms .reasons) (c .whole-reason .result) Conflict (g .atoms .changed) (stays-on g) (v .goes) (omega (arith, v .counts))
 
@@ -191,10 +234,10 @@ propagates c =
     let a = start (c .before) .args in
     let t = turnAt (c .before) .turns in
     ⊎-elim
-    (λ w. carried (a .t .now) (a .tb) (t .it) (t .reasons) (w .11) (w .12) (w .13) (w .14) (rule-conflict (record { before = record { before = record { before = record { before = record { before = record { before = record { before = record { before = record { before = record { before = record { before = c .before; rules-test = w .0 }; at = w .1 }; it2 = w .2 }; demand-arg = w .3 }; demand = w .4 }; match = w .5 }; enum-told2 = w .6 }; it3 = w .7 }; reason-arg = w .8 }; reasons = w .9 }; reason = w .10 })))
+    (λ w. carried (a .t .now) (a .tb) (t .it) (t .reasons) (w .11) (w .12) (w .13) (w .16) (rule-conflict (record { before = record { before = record { before = record { before = record { before = record { before = record { before = record { before = record { before = record { before = record { before = c .before; rules-test = w .0 }; at = w .1 }; it2 = w .2 }; demand-arg = w .3 }; demand = w .4 }; match = w .5 }; enum-told2 = w .6 }; it3 = w .7 }; reason-arg = w .8 }; reasons = w .9 }; reason = w .10 })))
     (⊎-elim
-    (λ w. carried (a .t .now) (a .tb) (t .it) (t .reasons) (w .12) (w .13) (w .14) (w .15) (atom-conflict (record { before = record { before = record { before = record { before = record { before = record { before = record { before = record { before = record { before = record { before = record { before = record { before = c .before; rules-test = w .0 }; atoms = w .1 }; atoms-test = w .2 }; it5 = w .3 }; asked-arg = w .4 }; asked = w .5 }; match2 = w .6 }; enum-told4 = w .7 }; it6 = w .8 }; whole-reason-arg = w .9 }; reasons3 = w .10 }; whole-reason = w .11 })))
-    (λ w. carried (a .t .now) (a .tb) (t .it) (t .reasons) (w .4) (w .5) (w .6) (w .7) (at-rest (record { before = record { before = record { before = record { before = c .before; rules-test = w .0 }; atoms = w .1 }; atoms-test = w .2 }; if1 = w .3 }))))
+    (λ w. carried (a .t .now) (a .tb) (t .it) (t .reasons) (w .12) (w .13) (w .14) (w .17) (atom-conflict (record { before = record { before = record { before = record { before = record { before = record { before = record { before = record { before = record { before = record { before = record { before = record { before = c .before; rules-test = w .0 }; atoms = w .1 }; atoms-test = w .2 }; it5 = w .3 }; asked-arg = w .4 }; asked = w .5 }; match2 = w .6 }; enum-told4 = w .7 }; it6 = w .8 }; whole-reason-arg = w .9 }; reasons3 = w .10 }; whole-reason = w .11 })))
+    (λ w. carried (a .t .now) (a .tb) (t .it) (t .reasons) (w .4) (w .5) (w .6) (w .9) (at-rest (record { before = record { before = record { before = record { before = c .before; rules-test = w .0 }; atoms = w .1 }; atoms-test = w .2 }; if1 = w .3 }))))
     (c .rules-test .came)
 
 -- the rows are 256 still

@@ -22,10 +22,10 @@ use Rattle.literals.proofs.aggregates.each_value.Statement.{statement}
 use Rattle.literals.proofs.aggregates.each_value.Tie as tie
 use Rattle.literals.proofs.aggregates.each_value.Reads as reads
 use Rattle.literals.proofs.aggregates.each_value.Lts as lts
-use Rattle.literals.proofs.aggregates.byte_at.Reads as byte-at-reads
+use Rattle.literals.proofs.byte_at.Reads as byte-at-reads
 use Rattle.literals.proofs.aggregates.decide.Reads as decide-reads
 use Rattle.literals.proofs.aggregates.passes.Reads as passes-reads
-use Rattle.words.proofs.atom.Reads as atom-reads
+use Rattle.words.proofs.number.Reads as number-reads
 
 abbrev Inv-loop : tie.InvT-loop
 Inv-loop w c k values passed₀ passable₀ failable₀ left₀ passed passable failable left =
@@ -52,10 +52,10 @@ byte-at-requires : tie.Need-byte-at-requires Inv-loop μ-loop
 byte-at-requires c κs =
     let b = c .before in
     let h = b .before .pre .atoms (b .loop .left - 1) (omega arith) in
-    (omega arith, h .0, h .1)
+    (omega arith, h .0, h .1, b .before .pre .plain (2 * (b .loop .left - 1) + 1) (omega arith))
 
-atom-requires : tie.Need-atom-requires Inv-loop μ-loop
-atom-requires c κs = omega arith
+number-requires : tie.Need-number-requires Inv-loop μ-loop
+number-requires c κs = let b = c .before .before in (omega arith, b .before .pre .plain (2 * (b .loop .left - 1)) (omega arith))
 
 passes-requires : tie.Need-passes-requires Inv-loop μ-loop
 passes-requires c κs = search needs
@@ -69,7 +69,7 @@ step c {ok} e =
     let a = b .before .args in
     let v = cellValue (cellBy (c .before .before .byte-at .result) 0) in
     marks-step (a .w .now) (a .c) (a .k) (valued (a .values .now)) (b .loop .left) (c .before .before .before .loop-test .taken) (omega arith) v ok (ap cellValue (c .before .before .byte-at .ensures))
-    (sym e ∙ c .passes .ensures ∙ ap (passesBy (a .c) (a .k)) (c .before .atom .ensures))
+    (sym e ∙ c .passes .ensures ∙ ap (passesBy (a .c) (a .k)) (c .before .number .ensures))
     ∙ ap (markedBy v ok) (b .loop .inv .1)
 
 loop-less : tie.Need-loop-less Inv-loop μ-loop
@@ -128,7 +128,7 @@ each-value-spec =
     mul-i
     add-place
     byte-at-requires
-    atom-requires
+    number-requires
     passes-requires
     loop-less
     loop-again

@@ -24,9 +24,9 @@ use Rattle.literals.proofs.aggregates.some_value.Tie as tie
 use Rattle.literals.proofs.aggregates.some_value.Reads as reads
 use Rattle.literals.proofs.aggregates.some_value.Lts as lts
 use Rattle.literals.proofs.aggregates.between.Reads as between-reads
-use Rattle.literals.proofs.aggregates.byte_at.Reads as byte-at-reads
+use Rattle.literals.proofs.byte_at.Reads as byte-at-reads
 use Rattle.literals.proofs.aggregates.passes.Reads as passes-reads
-use Rattle.words.proofs.atom.Reads as atom-reads
+use Rattle.words.proofs.number.Reads as number-reads
 
 abbrev Inv-loop : tie.InvT-loop
 Inv-loop w c k values passable₀ left₀ passable left =
@@ -47,8 +47,8 @@ sub-left c = omega arith
 mul-i : tie.Need-mul-i Inv-loop μ-loop
 mul-i c = let h = c .before .before .pre .short in omega arith
 
-atom-requires : tie.Need-atom-requires Inv-loop μ-loop
-atom-requires c κs = omega arith
+number-requires : tie.Need-number-requires Inv-loop μ-loop
+number-requires c κs = let b = c .before in (omega arith, b .before .pre .plain (2 * (b .loop .left - 1)) (omega arith))
 
 passes-requires : tie.Need-passes-requires Inv-loop μ-loop
 passes-requires c κs = search needs
@@ -60,7 +60,7 @@ byte-at-requires : tie.Need-byte-at-requires Inv-loop μ-loop
 byte-at-requires c κs =
     let b = c .before .before .before .before in
     let h = b .before .pre .atoms (b .loop .left - 1) (omega arith) in
-    (omega arith, h .0, h .1)
+    (omega arith, h .0, h .1, b .before .pre .plain (2 * (b .loop .left - 1) + 1) (omega arith))
 
 -- the marks with the pair that is looked at, by whether its value passes and by what its atom is
 step : (c : tie.After-passes Inv-loop μ-loop) (v : Value) {ok : Bool} → c .passes .result ≡ ok
@@ -71,7 +71,7 @@ step c v {ok} e ev =
     let b = c .before .before .before in
     let a = b .before .args in
     marks-step (a .w .now) (a .c) (a .k) (valued (a .values .now)) (b .loop .left) (c .before .before .loop-test .taken) (omega arith) v ok ev
-    (sym e ∙ c .passes .ensures ∙ ap (passesBy (a .c) (a .k)) (c .before .atom .ensures))
+    (sym e ∙ c .passes .ensures ∙ ap (passesBy (a .c) (a .k)) (c .before .number .ensures))
 
 -- the same of a pair whose value passes, by its byte
 step-byte : (c : tie.After-byte-at Inv-loop μ-loop)
@@ -140,7 +140,7 @@ some-value-spec =
     loop-holds
     sub-left
     mul-i
-    atom-requires
+    number-requires
     passes-requires
     add-place
     byte-at-requires

@@ -19,9 +19,9 @@ use Rattle.literals.proofs.aggregates.totals_of.Tie as tie
 use Rattle.literals.proofs.aggregates.totals_of.Reads as reads
 use Rattle.literals.proofs.aggregates.totals_of.Lts as lts
 use Rattle.literals.proofs.aggregates.added.Reads as added-reads
-use Rattle.literals.proofs.aggregates.byte_at.Reads as byte-at-reads
+use Rattle.literals.proofs.byte_at.Reads as byte-at-reads
 use Rattle.literals.proofs.aggregates.weight.Reads as weight-reads
-use Rattle.words.proofs.atom.Reads as atom-reads
+use Rattle.words.proofs.number.Reads as number-reads
 
 abbrev Inv-loop : tie.InvT-loop
 Inv-loop w count values t₀ left₀ t left =
@@ -42,8 +42,8 @@ sub-left c = omega arith
 mul-i : tie.Need-mul-i Inv-loop μ-loop
 mul-i c = let h = c .before .before .pre .short in omega arith
 
-atom-requires : tie.Need-atom-requires Inv-loop μ-loop
-atom-requires c κs = omega arith
+number-requires : tie.Need-number-requires Inv-loop μ-loop
+number-requires c κs = let b = c .before in (omega arith, b .before .pre .plain (2 * (b .loop .left - 1)) (omega arith))
 
 weight-requires : tie.Need-weight-requires Inv-loop μ-loop
 weight-requires c κs = search needs
@@ -55,13 +55,13 @@ byte-at-requires : tie.Need-byte-at-requires Inv-loop μ-loop
 byte-at-requires c κs =
     let b = c .before .before .before in
     let h = b .before .pre .atoms (b .loop .left - 1) (omega arith) in
-    (omega arith, h .0, h .1)
+    (omega arith, h .0, h .1, b .before .pre .plain (2 * (b .loop .left - 1) + 1) (omega arith))
 
 -- what the element adds is at most 65,535
 light : (c : tie.After-weight Inv-loop μ-loop) → c .weight .result ≤ 65535
 light c =
     let b = c .before .before .before in
-    rw (c .weight .ensures) (weight-most (b .before .args .count) (c .before .atom .result) (rw (c .before .atom .ensures) (b .before .pre .values (b .loop .left - 1) (omega arith))))
+    rw (c .weight .ensures) (weight-most (b .before .args .count) (c .before .number .result) (rw (c .before .number .ensures) (b .before .pre .values (b .loop .left - 1) (omega arith))))
 
 added-requires : tie.Need-added-requires Inv-loop μ-loop
 added-requires c κs = let h = c .before .before .before .before .before .pre .short in (light (c .before), omega arith, omega arith)
@@ -86,7 +86,7 @@ loop-again c =
       omega arith,
       c .added .ensures
           ∙ totals-down (a .w .now) (b .loop .left) (valued (a .values .now)) (c .before .before .before .before .loop-test .taken) (omega arith) (a .count) v x s
-          (ap cellValue (c .before .byte-at .ensures)) (c .before .before .weight .ensures ∙ ap (weightOf (a .count)) (c .before .before .before .atom .ensures)) (b .loop .inv .3),
+          (ap cellValue (c .before .byte-at .ensures)) (c .before .before .weight .ensures ∙ ap (weightOf (a .count)) (c .before .before .before .number .ensures)) (b .loop .inv .3),
     )
 
 returns : tie.Need-returns Inv-loop μ-loop
@@ -103,7 +103,7 @@ totals-of-spec =
     loop-holds
     sub-left
     mul-i
-    atom-requires
+    number-requires
     weight-requires
     add-place
     byte-at-requires

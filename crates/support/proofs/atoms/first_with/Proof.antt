@@ -5,6 +5,7 @@ use Prim.Native.Nat.{ℕ, _-_, _≤_}
 use native.Mathlib.Omega.{arith}
 use lib.IntN.{pos, natAbs}
 use lib.ListN.{length, getD, drop}
+use Rattle.interpretation.specs.State.{Cell}
 use Rattle.interpretation.specs.View.{valued, cellValue}
 use Rattle.interpretation.specs.declared.Choice.the-variants as choice
 use Rattle.layout.specs.Layout.{atoms}
@@ -12,11 +13,6 @@ use Rattle.support.specs.Asking.{valuesOf, sameValue, firstWith}
 use Rattle.support.proofs.Walks.{with-here, with-on, with-end}
 use Rattle.support.proofs.atoms.first_with.Statement.{statement}
 use Rattle.support.proofs.atoms.first_with.Tie as tie
-use Rattle.support.proofs.atoms.first_with.Reads as reads
-use Rattle.support.proofs.atoms.first_with.Lts as lts
-use Rattle.interpretation.proofs.value_of.Reads as value-of-reads
-use Rattle.support.proofs.atoms.same_value.Reads as same-value-reads
-use Rattle.words.proofs.atom.Reads as atom-reads
 
 abbrev Inv-loop : tie.InvT-loop
 Inv-loop l v values i₀ i = (i ≤ length l) × (firstWith (valuesOf (valued values)) v (atoms (drop i l)) ≡ firstWith (valuesOf (valued values)) v (atoms l))
@@ -24,57 +20,54 @@ Inv-loop l v values i₀ i = (i ≤ length l) × (firstWith (valuesOf (valued va
 abbrev μ-loop : tie.MeasureT-loop
 μ-loop l v values i₀ i = length l - i
 
--- src/lib.rt:87:5
 loop-holds : tie.Need-loop-holds Inv-loop μ-loop
 loop-holds c = (omega arith, refl)
 
--- src/lib.rt:88:13
-atom-requires : tie.Need-atom-requires Inv-loop μ-loop
-atom-requires c κs = omega arith
+byte-at-requires : tie.Need-byte-at-requires Inv-loop μ-loop
+byte-at-requires c κs =
+    let b = c .before in
+    let h = b .before .pre .0 (b .loop .i) (c .loop-test .taken) in
+    (c .loop-test .taken, h .0, h .1, b .before .pre .1 (b .loop .i) (c .loop-test .taken))
 
--- src/lib.rt:89:26
-value-of-requires : tie.Need-value-of-requires Inv-loop μ-loop
-value-of-requires c κs = rw (c .atom .ensures) (c .before .before .before .pre (c .before .before .loop .i) (omega arith))
-
--- src/lib.rt:89:12
-same-value-requires : tie.Need-same-value-requires Inv-loop μ-loop
-same-value-requires c κs = search needs
+is-value-requires : tie.Need-is-value-requires Inv-loop μ-loop
+is-value-requires c κs = search needs
 
 -- what was asked of the atom at hand
-asked : (c : tie.After-same-value Inv-loop μ-loop) → let b = c .before .before .before .before in let a = b .before .args in
-    sameValue (a .v) (cellValue (valued (a .values .now) (natAbs (getD (a .l .now) (b .loop .i) (pos 0))))) ≡ c .same-value .result
+asked : (c : tie.After-is-value Inv-loop μ-loop) → let b = c .before .before .before in let a = b .before .args in
+    sameValue (a .v) (cellValue (valued (a .values .now) (natAbs (getD (a .l .now) (b .loop .i) (pos 0))))) ≡ c .is-value .result
 asked c =
-    let b = c .before .before .before .before in
-    let a = b .before .args in
-    sym (c .same-value .ensures ∙ ap (sameValue (a .v)) (c .before .value-of .ensures ∙ ap (λ (q : ℕ). cellValue (valued (a .values .now) q)) (c .before .before .atom .ensures)))
+    let a = c .before .before .before .before .args in
+    sym (c .is-value .ensures ∙ ap (λ (x : Cell). sameValue (a .v) (cellValue x)) (c .before .byte-at .ensures))
+
+number-requires : tie.Need-number-requires Inv-loop μ-loop
+number-requires c κs =
+    let i = c .before .before .before in
+    (i .loop-test .taken, i .before .before .pre .1 (i .before .loop .i) (i .loop-test .taken))
 
 returns : tie.Need-returns Inv-loop μ-loop
 returns c =
-    let b = c .before .before .before .before .before in
+    let i = c .before .before .before .before in
+    let b = i .before in
     let a = b .before .args in
-    ap choice.Atom (c .before .before .before .atom .ensures)
-    ∙ sym (with-here (a .l .now) (b .loop .i) (valuesOf (valued (a .values .now))) (a .v) (c .before .before .before .before .loop-test .taken) (asked (c .before) ∙ c .if1 .taken))
+    ap choice.Atom (c .number .ensures)
+    ∙ sym (with-here (a .l .now) (b .loop .i) (valuesOf (valued (a .values .now))) (a .v) (i .loop-test .taken) (asked (c .before .before) ∙ c .before .if1 .taken))
     ∙ b .loop .inv .1
 
--- src/lib.rt:92:9
 add-i : tie.Need-add-i Inv-loop μ-loop
 add-i c = search needs
 
--- src/lib.rt:87:5
 loop-less : tie.Need-loop-less Inv-loop μ-loop
 loop-less c = omega arith
 
--- src/lib.rt:87:5
 loop-again : tie.Need-loop-again Inv-loop μ-loop
 loop-again c =
-    let b = c .before .before .before .before .before in
+    let b = c .before .before .before .before in
     let a = b .before .args in (
       omega arith,
-      sym (with-on (a .l .now) (b .loop .i) (valuesOf (valued (a .values .now))) (a .v) (c .before .before .before .before .loop-test .taken) (asked (c .before) ∙ c .if1 .left))
+      sym (with-on (a .l .now) (b .loop .i) (valuesOf (valued (a .values .now))) (a .v) (c .before .before .before .loop-test .taken) (asked (c .before) ∙ c .if1 .left))
           ∙ b .loop .inv .1,
     )
 
--- src/lib.rt:82:1
 returns-2 : tie.Need-returns-2 Inv-loop μ-loop
 returns-2 c =
     let a = c .before .before .args in
@@ -87,9 +80,9 @@ first-with-spec =
     Inv-loop
     μ-loop
     loop-holds
-    atom-requires
-    value-of-requires
-    same-value-requires
+    byte-at-requires
+    is-value-requires
+    number-requires
     returns
     add-i
     loop-less

@@ -7,19 +7,15 @@ use native.Mathlib.Omega.{arith}
 use lib.Dec.{eqb}
 use lib.IntN.{pos, natAbs}
 use lib.ListN.{length, getD, drop}
+use Rattle.interpretation.specs.State.{Cell}
 use Rattle.interpretation.specs.View.{valued, cellValue}
 use Rattle.interpretation.specs.declared.Choice.the-variants as choice
 use Rattle.layout.specs.Layout.{atoms}
 use Rattle.valuing.specs.Values.{saysTrue}
 use Rattle.support.specs.Asking.{valuesOf, otherTrue}
-use Rattle.support.proofs.Walks.{other-here, other-on, other-end}
+use Rattle.support.proofs.Walks.{same-true, other-here, other-on, other-end}
 use Rattle.support.proofs.atoms.other_true.Statement.{statement}
 use Rattle.support.proofs.atoms.other_true.Tie as tie
-use Rattle.support.proofs.atoms.other_true.Reads as reads
-use Rattle.support.proofs.atoms.other_true.Lts as lts
-use Rattle.interpretation.proofs.value_of.Reads as value-of-reads
-use Rattle.support.proofs.atoms.same_value.Reads as same-value-reads
-use Rattle.words.proofs.atom.Reads as atom-reads
 
 abbrev Inv-loop : tie.InvT-loop
 Inv-loop l p values k₀ k = (k ≤ length l) × (otherTrue (valuesOf (valued values)) p (atoms (drop k l)) ≡ otherTrue (valuesOf (valued values)) p (atoms l))
@@ -27,60 +23,53 @@ Inv-loop l p values k₀ k = (k ≤ length l) × (otherTrue (valuesOf (valued va
 abbrev μ-loop : tie.MeasureT-loop
 μ-loop l p values k₀ k = length l - k
 
--- src/lib.rt:103:5
 loop-holds : tie.Need-loop-holds Inv-loop μ-loop
 loop-holds c = (omega arith, refl)
 
--- src/lib.rt:104:13
-atom-requires : tie.Need-atom-requires Inv-loop μ-loop
-atom-requires c κs = omega arith
+number-requires : tie.Need-number-requires Inv-loop μ-loop
+number-requires c κs = (c .loop-test .taken, c .before .before .pre .1 (c .before .loop .k) (c .loop-test .taken))
 
--- src/lib.rt:105:45
-value-of-requires : tie.Need-value-of-requires Inv-loop μ-loop
-value-of-requires c κs = rw (c .atom .ensures) (c .before .before .before .pre (c .before .before .loop .k) (omega arith))
-
--- src/lib.rt:105:13
-same-value-requires : tie.Need-same-value-requires Inv-loop μ-loop
-same-value-requires c κs = search needs
+byte-at-requires : tie.Need-byte-at-requires Inv-loop μ-loop
+byte-at-requires c κs =
+    let i = c .before in
+    let b = i .before in
+    let h = b .before .pre .0 (b .loop .k) (i .loop-test .taken) in
+    (i .loop-test .taken, h .0, h .1, b .before .pre .1 (b .loop .k) (i .loop-test .taken))
 
 -- what was asked of the atom at hand
-asked : (c : tie.After-same-value Inv-loop μ-loop) → let b = c .before .before .before .before in let a = b .before .args in let q = natAbs (getD (a .l .now) (b .loop .k) (pos 0)) in
-    not (eqb q (a .p)) && saysTrue (cellValue (valued (a .values .now) q)) ≡ not (eqb (c .before .before .atom .result) (a .p)) && c .same-value .result
+asked : (c : tie.After-byte-at Inv-loop μ-loop) → let b = c .before .before .before in let a = b .before .args in let q = natAbs (getD (a .l .now) (b .loop .k) (pos 0)) in
+    not (eqb q (a .p)) && saysTrue (cellValue (valued (a .values .now) q)) ≡ not (eqb (c .before .number .result) (a .p)) && eqb (c .byte-at .result) 1
 asked c =
-    let b = c .before .before .before .before in
+    let b = c .before .before .before in
     let a = b .before .args in
-    let q = c .before .before .atom .result in
-    sym (ap (λ (x : Bool). not (eqb q (a .p)) && x) (c .same-value .ensures ∙ ap saysTrue (c .before .value-of .ensures))
-    ∙ ap (λ (o : ℕ). not (eqb o (a .p)) && saysTrue (cellValue (valued (a .values .now) o))) (c .before .before .atom .ensures))
+    let q = natAbs (getD (a .l .now) (b .loop .k) (pos 0)) in
+    sym (ap (λ (x : Bool). not (eqb (c .before .number .result) (a .p)) && x) (same-true (c .byte-at .result) ∙ ap (λ (x : Cell). saysTrue (cellValue x)) (c .byte-at .ensures))
+    ∙ ap (λ (o : ℕ). not (eqb o (a .p)) && saysTrue (cellValue (valued (a .values .now) q))) (c .before .number .ensures))
 
--- src/lib.rt:107:13
 returns : tie.Need-returns Inv-loop μ-loop
 returns c =
-    let b = c .before .before .before .before .before in
+    let n = c .before .before in
+    let b = n .before .before in
     let a = b .before .args in
-    ap choice.Atom (c .before .before .before .atom .ensures)
-    ∙ sym (other-here (a .l .now) (b .loop .k) (valuesOf (valued (a .values .now))) (a .p) (c .before .before .before .before .loop-test .taken) (asked (c .before) ∙ c .if1 .taken))
+    ap choice.Atom (n .number .ensures)
+    ∙ sym (other-here (a .l .now) (b .loop .k) (valuesOf (valued (a .values .now))) (a .p) (n .before .loop-test .taken) (asked (c .before) ∙ c .if1 .taken))
     ∙ b .loop .inv .1
 
--- src/lib.rt:109:9
 add-k : tie.Need-add-k Inv-loop μ-loop
 add-k c = search needs
 
--- src/lib.rt:103:5
 loop-less : tie.Need-loop-less Inv-loop μ-loop
 loop-less c = omega arith
 
--- src/lib.rt:103:5
 loop-again : tie.Need-loop-again Inv-loop μ-loop
 loop-again c =
-    let b = c .before .before .before .before .before in
+    let b = c .before .before .before .before in
     let a = b .before .args in (
       omega arith,
-      sym (other-on (a .l .now) (b .loop .k) (valuesOf (valued (a .values .now))) (a .p) (c .before .before .before .before .loop-test .taken) (asked (c .before) ∙ c .if1 .left))
+      sym (other-on (a .l .now) (b .loop .k) (valuesOf (valued (a .values .now))) (a .p) (c .before .before .before .loop-test .taken) (asked (c .before) ∙ c .if1 .left))
           ∙ b .loop .inv .1,
     )
 
--- src/lib.rt:98:1
 returns-2 : tie.Need-returns-2 Inv-loop μ-loop
 returns-2 c =
     let a = c .before .before .args in
@@ -93,9 +82,8 @@ other-true-spec =
     Inv-loop
     μ-loop
     loop-holds
-    atom-requires
-    value-of-requires
-    same-value-requires
+    number-requires
+    byte-at-requires
     returns
     add-k
     loop-less
