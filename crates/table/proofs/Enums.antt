@@ -2,11 +2,13 @@
 use mathlib.Core.Path.{_≡_, refl, sym, ap, _∙_, subst}
 use mathlib.Core.Bool.{Bool, true, false}
 use mathlib.Core.List.{List, [], _∷_}
-use mathlib.Core.Option.{none, some}
-use Prim.Native.Nat.{ℕ, suc}
+use mathlib.Core.Option.{Option, none, some}
+use Prim.Native.Nat.{ℕ, suc, _+_, _-_, _<_}
+use native.Mathlib.Omega.{arith}
+use native.Mathlib.Numerals.{add-one}
 use lib.Dec.{T}
 use lib.IntN.{ℤ, pos, natAbs}
-use lib.ListN.{drop}
+use lib.ListN.{length, drop, length-drop}
 use Rattle.results.specs.declared.Refusal.{Refusal}
 use Rattle.results.specs.declared.Refusal.the-variants.{Absent}
 use Rattle.table.specs.Roles.{Role, fault, Format, done, Result, read, refused, run}
@@ -90,6 +92,27 @@ got-refused F i ws r e = go (run F i ws) refl
     go : (s : Result ℤ) → run F i ws ≡ s → run F i ws ≡ refused r
     go (read w k vs) h = no (ap isNumber (sym (ap gotOf h) ∙ e))
     go (refused s) h = h ∙ ap refused (ap (whyIn r) (sym (ap gotOf h) ∙ e))
+
+-- ---- one word moves the index by one, and it is there
+
+module _ (role : Role) (i n j : ℕ) where
+  stepped : (ws : List ℤ) → gotOf (run (one role) i ws) ≡ got.Number n j → (j ≡ suc i) × (0 < length ws)
+  stepped [] e = no (sym (ap isNumber (sym (ap gotOf (run-absent role done i)) ∙ e)))
+  stepped (w ∷ ws) e = at (fault role i w) refl
+    where
+      at : (o : Option Refusal) → fault role i w ≡ o → (j ≡ suc i) × (0 < suc (length ws))
+      at none f = (sym (ap afterIn (sym (ap gotOf (run-good role done i w ws f ∙ run-done w (suc i) ws)) ∙ e)), omega arith)
+      at (some r) f = no (sym (ap isNumber (sym (ap gotOf (run-bad role done i w ws r f)) ∙ e)))
+
+  module _ (t : List ℤ) (e : gotOf (run (one role) i (drop i t)) ≡ got.Number n j) where
+    pub got-index : j ≡ i + 1
+    got-index = stepped (drop i t) e .0 ∙ sym (add-one i)
+
+    pub got-one : gotOf (run (one role) i (drop i t)) ≡ got.Number n (i + 1)
+    got-one = e ∙ ap (got.Number n) got-index
+
+    pub got-there : i < length t
+    got-there = let l = length-drop i t in let h = stepped (drop i t) e .1 in omega (arith, l, h)
 
 -- ---- a part
 

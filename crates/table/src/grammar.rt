@@ -31,11 +31,11 @@ pub fn members_at(t: &[i32], i: Cursor, n: usize, signed: bool, top: usize) -> P
     let mut left = n;
     while 0 < left {
         let m = member_at(t, at, signed, top, previous);
-        let Got::Number(a, next) = m else {
+        let Got::Number(a, _) = m else {
             return passed(m);
         };
         previous = a;
-        at = next;
+        at += 1;
         left -= 1;
     }
     Part::Past(at)
@@ -46,9 +46,10 @@ pub fn list_at(t: &[i32], i: Cursor, most: usize, signed: bool, top: usize) -> P
     ensures { λ r. ⌜ r ≡ partOf (run (list most signed top) i (drop i (now (t .entry)))) ⌝ }
 {
     let c = count_at(t, i, most);
-    let Got::Number(n, next) = c else {
+    let Got::Number(n, _) = c else {
         return passed(c);
     };
+    let next = i + 1;
     members_at(t, next, n, signed, top)
 }
 
@@ -65,11 +66,11 @@ pub fn elements_at(t: &[i32], i: Cursor, n: usize, top: usize) -> Part
             return passed(v);
         };
         let m = member_at(t, place, false, top, previous);
-        let Got::Number(a, next) = m else {
+        let Got::Number(a, _) = m else {
             return passed(m);
         };
         previous = a;
-        at = next;
+        at += 2;
         left -= 1;
     }
     Part::Past(at)

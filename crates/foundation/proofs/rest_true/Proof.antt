@@ -8,7 +8,7 @@ use lib.IntN.{ℤ}
 use lib.ListN.{length}
 use Rattle.interpretation.specs.State.{Cell}
 use Rattle.interpretation.specs.View.{valued}
-use Rattle.layout.specs.Layout.{Listed, partAt, pastAt, posAt, negAt}
+use Rattle.layout.specs.Layout.{Listed, PlainAt, partAt, pastAt, posAt, negAt}
 use Rattle.literals.specs.Scan.{atomLits, literalLits}
 use Rattle.rules.specs.Demand.{together, asks, isConflict}
 use Rattle.layout.proofs.Rounds.{listed-wide}
@@ -44,6 +44,7 @@ with-rest-requires c κs =
       s .pre .0,
       subst (Listed 256 (table s)) (sym (third c)) (listed-wide _ 256 _ _ (s .pre .0 .fewAtoms) (s .pre .1 .negs)),
       subst (λ (i : ℕ). Listed (s .args .tb .aggregates) (table s) (pastAt (table s) i)) (sym (third c)) (s .pre .1 .aggs),
+      subst (PlainAt (table s)) (sym (third c)) (s .pre .1 .plainNeg),
     )
 
 is-conflict-requires : tie.Need-is-conflict-requires

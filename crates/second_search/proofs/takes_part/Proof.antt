@@ -9,7 +9,7 @@ use lib.IntN.{ℤ}
 use lib.ListN.{length}
 use Rattle.interpretation.specs.State.{Cell}
 use Rattle.interpretation.specs.View.{valued}
-use Rattle.layout.specs.Layout.{Members, partAt, pastAt, posAt, ruleAt}
+use Rattle.layout.specs.Layout.{Members, Plain, partAt, pastAt, posAt, ruleAt}
 use Rattle.layout.proofs.Rounds.{listed-wide}
 use Rattle.layout.proofs.Inside.{rule-in}
 use Rattle.literals.specs.Scan.{atomLits}
@@ -39,7 +39,7 @@ positive c = let s = c .before .before in c .part .ensures ∙ ap (partAt (table
 atoms-ask-requires : tie.Need-atoms-ask-requires
 atoms-ask-requires c κs =
     let s = c .before .before in
-    subst (Members 256) (sym (positive c)) (listed-wide _ 256 _ _ (s .pre .0 .fewAtoms) (s .pre .1 .poss) .members)
+    (subst (Members 256) (sym (positive c)) (listed-wide _ 256 _ _ (s .pre .0 .fewAtoms) (s .pre .1 .poss) .members), subst Plain (sym (positive c)) (s .pre .1 .plainPos .words))
 
 is-conflict-requires : tie.Need-is-conflict-requires
 is-conflict-requires c κs = search needs

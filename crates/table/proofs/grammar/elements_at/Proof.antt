@@ -3,10 +3,14 @@
 use borrow.Author.Needs.{needs}
 use native.Mathlib.Omega.{arith}
 use mathlib.Core.Path.{_≡_, refl, sym, ap, _∙_}
-use lib.ListN.{drop}
-use Rattle.table.specs.Roles.{run}
+use mathlib.Core.Bool.{false}
+use Prim.Native.Nat.{ℕ, _+_, _-_, _<_}
+use lib.IntN.{pos}
+use lib.ListN.{length, drop}
+use Rattle.table.specs.Roles.{quantity, member, run}
 use Rattle.table.specs.Grammar.{elements}
 use Rattle.table.specs.Places.{partOf, passedOf}
+use Rattle.table.proofs.Enums.{got-index, got-there}
 use Rattle.table.proofs.Parts.{elements-on, elements-stop, elements-stop-atom, elements-none}
 use Rattle.table.proofs.grammar.elements_at.Statement.{statement}
 use Rattle.table.proofs.grammar.elements_at.Tie as tie
@@ -66,6 +70,24 @@ returns-2 c =
     ∙ sym (elements-stop-atom _ _ _ _ (l .loop .left) _ _ _ (q .before .loop-test .taken) (sym (q .quantity-at .ensures) ∙ v .v .given .1) (sym (m .member-at .ensures) ∙ g))
     ∙ l .loop .inv
 
+-- the value and the atom are there, so the next index is two more
+two-more : (c : tie.After-m Inv-loop μ-loop) → let b = c .before .before .before .before .before .before .before .before in (c .m .given .0 .1 .0 ≡ b .loop .at + 2) × (b .loop .at + 1 < length (b .before .args .t .now))
+two-more c =
+    let m = c .before .before in
+    let v = m .before .before in
+    let q = v .before .before in
+    let b = q .before .before in
+    let a = b .before .args in
+    let e = sym (q .quantity-at .ensures) ∙ v .v .given .1 in
+    let f = sym (m .member-at .ensures) ∙ c .m .given .1 in
+    let x = got-index (quantity (pos 0) (pos 65535)) (b .loop .at) _ _ (a .t .now) e in
+    let y = got-index (member false (a .top) (b .loop .previous)) _ _ _ (a .t .now) f in
+    let z = got-there (member false (a .top) (b .loop .previous)) _ _ _ (a .t .now) f in
+    (omega (arith, x, y), omega (arith, x, z))
+
+add-at : tie.Need-add-at Inv-loop μ-loop
+add-at c = let h = two-more (c .before) .1 in search needs
+
 sub-left : tie.Need-sub-left Inv-loop μ-loop
 sub-left c = omega arith
 
@@ -78,8 +100,10 @@ loop-again c =
     let v = m .before .before in
     let q = v .before .before in
     let l = q .before .before in
+    let a = l .before .args in
     sym
-    (elements-on _ _ _ _ (l .loop .left) _ _ _ _ (q .before .loop-test .taken) (sym (q .quantity-at .ensures) ∙ v .v .given .1) (sym (m .member-at .ensures) ∙ c .before .m .given .1))
+    (elements-on _ _ _ _ (l .loop .left) _ _ _ _ (q .before .loop-test .taken) (sym (q .quantity-at .ensures) ∙ v .v .given .1) (sym (m .member-at .ensures) ∙ c .before .m .given .1)
+    ∙ ap (λ (k : ℕ). partOf (run (elements (a .top) (c .before .m .given .0 .0) (l .loop .left - 1)) k (drop k (a .t .now)))) (two-more (c .before) .0))
     ∙ l .loop .inv
 
 returns-3 : tie.Need-returns-3 Inv-loop μ-loop
@@ -104,6 +128,7 @@ elements-at-spec =
     enum-told-2
     passed-requires-2
     returns-2
+    add-at
     sub-left
     loop-less
     loop-again

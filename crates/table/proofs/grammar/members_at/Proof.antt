@@ -3,10 +3,13 @@
 use borrow.Author.Needs.{needs}
 use native.Mathlib.Omega.{arith}
 use mathlib.Core.Path.{_≡_, refl, sym, ap, _∙_}
-use lib.ListN.{drop}
-use Rattle.table.specs.Roles.{run}
-use Rattle.table.specs.Grammar.{members}
-use Rattle.table.specs.Places.{partOf, passedOf}
+use Prim.Native.Nat.{_+_, _<_}
+use lib.ListN.{length, drop}
+use Rattle.table.specs.Roles.{member, run}
+use Rattle.table.specs.Grammar.{one, members}
+use Rattle.table.specs.Places.{gotOf, partOf, passedOf}
+use Rattle.table.specs.declared.Got.the-variants as got
+use Rattle.table.proofs.Enums.{got-one, got-there}
 use Rattle.table.proofs.Parts.{members-on, members-stop, members-none}
 use Rattle.table.proofs.grammar.members_at.Statement.{statement}
 use Rattle.table.proofs.grammar.members_at.Tie as tie
@@ -42,6 +45,26 @@ returns c =
     ∙ sym (members-stop _ _ _ _ _ (a .loop .left) _ (c .before .before .before .before .loop-test .taken) (sym (c .before .before .before .member-at .ensures) ∙ g))
     ∙ a .loop .inv
 
+-- the word at hand is there, and the next index is one more
+abbrev place : tie.After-m Inv-loop μ-loop → tie.At-loop Inv-loop μ-loop
+place c = c .before .before .before .before
+
+there : (c : tie.After-m Inv-loop μ-loop) → place c .loop .at < length (place c .before .args .t .now)
+there c =
+    let b = place c in
+    got-there (member (b .before .args .signed) (b .before .args .top) (b .loop .previous)) (b .loop .at) (c .m .given .0 .0) (c .m .given .0 .1 .0) (b .before .args .t .now)
+    (sym (c .before .before .member-at .ensures) ∙ c .m .given .1)
+
+one-more : (c : tie.After-m Inv-loop μ-loop) → let b = place c in let a = b .before .args in
+    gotOf (run (one (member (a .signed) (a .top) (b .loop .previous))) (b .loop .at) (drop (b .loop .at) (a .t .now))) ≡ got.Number (c .m .given .0 .0) (b .loop .at + 1)
+one-more c =
+    let b = place c in
+    got-one (member (b .before .args .signed) (b .before .args .top) (b .loop .previous)) (b .loop .at) (c .m .given .0 .0) (c .m .given .0 .1 .0) (b .before .args .t .now)
+    (sym (c .before .before .member-at .ensures) ∙ c .m .given .1)
+
+add-at : tie.Need-add-at Inv-loop μ-loop
+add-at c = let h = there (c .before) in search needs
+
 sub-left : tie.Need-sub-left Inv-loop μ-loop
 sub-left c = omega arith
 
@@ -51,7 +74,7 @@ loop-less c = omega arith
 loop-again : tie.Need-loop-again Inv-loop μ-loop
 loop-again c =
     let b = c .before .before .before in
-    sym (members-on _ _ _ _ _ (b .before .before .loop .left) _ _ (b .before .loop-test .taken) (sym (b .member-at .ensures) ∙ c .before .m .given .1)) ∙ b .before .before .loop .inv
+    sym (members-on _ _ _ _ _ (b .before .before .loop .left) _ _ (b .before .loop-test .taken) (one-more (c .before))) ∙ b .before .before .loop .inv
 
 returns-2 : tie.Need-returns-2 Inv-loop μ-loop
 returns-2 c =
@@ -70,6 +93,7 @@ members-at-spec =
     enum-told
     passed-requires
     returns
+    add-at
     sub-left
     loop-less
     loop-again
