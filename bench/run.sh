@@ -10,6 +10,8 @@ if [ "${1:-}" = check ]; then
     python3 tools/cases.py target/bench
     target/bench/check lines tools/lines.txt
     target/bench/check cases target/bench/cases.bin target/bench/cases.stdout
+    target/bench/check whys crates/run_why/stdin crates/run_why/stdout
+    target/bench/check whys tools/dock/reasons/stdin tools/dock/reasons/stdout
     exit
 fi
 library=target/staticlib

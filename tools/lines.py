@@ -4,7 +4,9 @@
     python3 tools/lines.py LINES EDGES OUT BASELINE     writes OUT/texts.bin and OUT/texts.stdout
 
 LINES has an input on one line and on the next, after `= `, what 01's definition prints (what stands after
-` | plain:` is for other uses and is dropped). EDGES has tables and texts at 01's edges in the same way, said in words
+` | plain:` is for other uses and is dropped). Its lines come from an implementation that shares nothing with this
+repository; with request 4 the counts of seven of them became others, and these are BASELINE's (`check relined`), which
+agrees with that implementation on request 4's own vectors and, with 01's reasons, on the seven as they were. EDGES has tables and texts at 01's edges in the same way, said in words
 and in short forms that it explains. To these come 01's example and cases, further texts at the edges of what a number
 is, and some larger tables, for which BASELINE (bench/src/check.rs built) prints the line.
 

@@ -23,7 +23,7 @@ def chain(n):
 
 
 def line_of(case):
-    result = case.get("result01", case["result"])
+    result = case["result"]
     if "refused" in result:
         number, place = result["refused"]
         return f"refused {number} {place} 0"

@@ -5,7 +5,7 @@
 
 LINES is tools/lines.txt: an input on one line and on the next what 01's definition prints, the plain search's
 line after ` | plain: `. VECTORS has cases of request 5, a JSON object a line: words, limit, edition, cycles and
-the right result (`result01`, where there is one, is 01's); those of the old edition without head cycles are taken.
+the right result; those of the old edition without head cycles are taken.
 Neither was made by the code that it tests.
 
 stdin: one text after the other, each after its length in bytes, four bytes, low byte first. stdout: one line a
@@ -40,7 +40,7 @@ def from_vectors(path):
         for case in map(json.loads, file):
             if case["edition"] == 1 and not case["cycles"]:
                 text = " ".join(str(number) for number in [case["limit"]] + case["words"])
-                pairs.append((text.encode() + b"\n", line_of(case.get("result01", case["result"]))))
+                pairs.append((text.encode() + b"\n", line_of(case["result"])))
     return pairs
 
 

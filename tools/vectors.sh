@@ -13,3 +13,5 @@ python3 tools/cases.py "$out"
 python3 tools/lines.py tools/lines.txt tools/edges.txt "$out" target/bench/check
 target/bench/check lines tools/lines.txt
 target/bench/check cases "$out/cases.bin" "$out/cases.stdout"
+target/bench/check whys crates/run_why/stdin crates/run_why/stdout
+target/bench/check whys tools/dock/reasons/stdin tools/dock/reasons/stdout

@@ -1,11 +1,12 @@
 #!/usr/bin/env python3
-"""What the program `run_why` reads and has to print, from vectors of request 1 ("Why is this in the plan?").
+"""What the program `run_why` reads and has to print, from vectors of request 1 ("Why is this in the plan?"); in the same form
+tools/dock/reasons, from those of request 4 ("Aggregate reasons as in the paper").
 
     python3 tools/why.py VECTORS OUT       writes OUT/stdin and OUT/stdout
 
 VECTORS has one JSON object a line: `words` and `limit` of a call in the old edition, and `result`, what an implementation that shares nothing with this
 repository says of it: {"refused": [number, place]}, or `end` (answer, none or limit), `choices`, `skips`, `why` (for each atom its round and its rule) and, with
-an answer, `plan` (a byte for each atom). Where the counts under the definition's own reasons are others than under request 4's, they stand in `result01`.
+an answer, `plan` (a byte for each atom). Where the counts under 01's own reasons are others, they stand in `result01`, which is not used.
 
 A text of `stdin` is the limit and the words in decimal, after its length in bytes, four bytes, low byte first. Of each, `stdout` has two lines: the text
 program's line; then `why` and, for each atom that has a round or a rule, the atom, its round and its rule. A table that is refused has no rounds."""
@@ -19,7 +20,7 @@ def text_of(case):
 
 
 def lines_of(case):
-    result = case.get("result01", case["result"])
+    result = case["result"]
     if "refused" in result:
         number, place = result["refused"]
         return [f"refused {number} {place}", "why"]

@@ -1,15 +1,17 @@
 //! 01's search once more, in plain Rust: the baseline of the benchmark, and a second opinion on the vectors.
 //!
 //! Written from 01 alone and the way one would write it in Rust: slices of the table, a trail, strongly
-//! connected components. Two settings are chosen by the caller. `jumping`: whether a conflict goes back to
+//! connected components. Three settings are chosen by the caller. `jumping`: whether a conflict goes back to
 //! the highest level of its reason (01's search) or always to the last (the plain search). `by_head`: whether
 //! steps d and e find an atom's rules by a list made once for the table, or walk all rules as 01 words it.
-//! The results are the same either way.
+//! The results are the same either way. `settling`: whether an aggregate literal's reason is the union over elements
+//! that settle it (02, request 4), or over all its defined elements (01); the counts of a jumping search differ.
 
 mod cycles;
 mod founded;
 mod reasons;
 mod search;
+mod settling;
 mod steps;
 mod table;
 mod values;
@@ -52,6 +54,7 @@ fn refusal(number: u32, place: usize) -> Refusal {
 pub struct Settings {
     pub jumping: bool,
     pub by_head: bool,
+    pub settling: bool,
 }
 
 /// Solves the table; on an answer the plan gets a byte for each atom.

@@ -2,6 +2,8 @@
 //!     check lines FILE                an input of the text program and, after `= `, what it must print
 //!     check cases CASES.bin STDOUT    the enumerator's cases (tools/cases.py says what they are)
 //!     check text                      prints the line for the text on standard input
+//!     check whys STDIN STDOUT         texts of the program `run_why` (tools/why.py says what they are): their lines, not the rounds
+//!     check relined FILE              prints the lines of FILE with what the baseline prints in the place of what is expected
 mod baseline;
 
 use baseline::{approve, solve, Approved, Refusal, Settings, Solved};
@@ -17,7 +19,11 @@ fn main() {
             check_cases(&fs::read(cases).expect("the cases"), &fs::read_to_string(stdout).expect("the stdout"))
         }
         ["text"] => print_text(),
-        _ => panic!("check lines FILE, or check cases CASES STDOUT, or check text"),
+        ["whys", stdin, stdout] => {
+            check_whys(&fs::read(stdin).expect("the texts"), &fs::read_to_string(stdout).expect("the stdout"))
+        }
+        ["relined", file] => print_relined(&fs::read_to_string(file).expect("the lines")),
+        _ => panic!("see the head of bench/src/check.rs"),
     };
     process::exit((wrong > 0) as i32);
 }
@@ -30,11 +36,7 @@ fn check_lines(text: &str) -> usize {
     for pair in lines.chunks_exact(2) {
         let expected = pair[1].strip_prefix("= ").expect("an expected line");
         for by_head in [false, true] {
-            let mut printed = run_text(pair[0].as_bytes(), Settings { jumping: true, by_head });
-            if expected.contains(" | ") {
-                let plain = run_text(pair[0].as_bytes(), Settings { jumping: false, by_head });
-                write!(printed, " | plain: {plain}").unwrap();
-            }
+            let printed = both_lines(pair[0], expected.contains(" | "), by_head);
             compared += 1;
             if printed != expected {
                 wrong += 1;
@@ -46,10 +48,47 @@ fn check_lines(text: &str) -> usize {
     wrong
 }
 
+/// What is printed for a text, and where it is asked for, the plain search's line.
+fn both_lines(text: &str, has_plain: bool, by_head: bool) -> String {
+    let mut printed = run_text(text.as_bytes(), Settings { jumping: true, by_head, settling: true });
+    if has_plain {
+        let plain = run_text(text.as_bytes(), Settings { jumping: false, by_head, settling: true });
+        write!(printed, " | plain: {plain}").unwrap();
+    }
+    printed
+}
+
+fn print_relined(text: &str) -> usize {
+    let lines: Vec<&str> = text.lines().collect();
+    for pair in lines.chunks_exact(2) {
+        println!("{}\n= {}", pair[0], both_lines(pair[0], pair[1].contains(" | "), true));
+    }
+    0
+}
+
+/// Each text stands after its length in four bytes; each has two lines, the second for its rounds.
+fn check_whys(mut texts: &[u8], stdout: &str) -> usize {
+    let (mut compared, mut wrong) = (0, 0);
+    let lines: Vec<&str> = stdout.lines().collect();
+    for pair in lines.chunks_exact(2) {
+        let (length, rest) = texts.split_at(4);
+        let (text, rest) = rest.split_at(u32::from_le_bytes(length.try_into().unwrap()) as usize);
+        texts = rest;
+        let printed = run_text(text, Settings { jumping: true, by_head: true, settling: true });
+        compared += 1;
+        if printed != pair[0] {
+            wrong += 1;
+            println!("input {}\n  expected {}\n  printed  {printed}", String::from_utf8_lossy(text), pair[0]);
+        }
+    }
+    println!("texts: {compared} compared, {wrong} wrong");
+    wrong + texts.len()
+}
+
 fn print_text() -> usize {
     let mut text = Vec::new();
     io::stdin().read_to_end(&mut text).expect("a text");
-    println!("{}", run_text(&text, Settings { jumping: true, by_head: true }));
+    println!("{}", run_text(&text, Settings { jumping: true, by_head: true, settling: true }));
     0
 }
 
@@ -117,8 +156,8 @@ fn check_cases(cases: &[u8], stdout: &str) -> usize {
         let words: Vec<i32> = (0..count).map(|_| numbers.next()).collect();
         let mut buffer: Vec<u8> = (0..given).map(|_| numbers.next() as u8).collect();
         buffer.resize(length, 7);
-        for (jumping, by_head) in [(true, false), (true, true), (false, true)] {
-            let printed = run_case(&words, &buffer, Settings { jumping, by_head });
+        for (jumping, by_head, settling) in [(true, false, true), (true, true, false), (true, true, true), (false, true, true)] {
+            let printed = run_case(&words, &buffer, Settings { jumping, by_head, settling });
             compared += 1;
             if printed != expected {
                 wrong += 1;

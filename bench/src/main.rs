@@ -37,7 +37,7 @@ fn report(solved: Solved) -> (u32, [u32; 2]) {
 }
 
 fn baseline_call<'a>(by_head: bool) -> Call<'a> {
-    Box::new(move |words, plan| report(baseline::solve(words, u32::MAX, plan, Settings { jumping: true, by_head })))
+    Box::new(move |words, plan| report(baseline::solve(words, u32::MAX, plan, Settings { jumping: true, by_head, settling: true })))
 }
 
 fn approve_report(approved: Approved) -> (u32, [u32; 2]) {
@@ -124,6 +124,19 @@ fn compare(title: &str, calls: &[(&str, Call)], tables: &[tables::Named], plans:
     (outcomes, all_agree)
 }
 
+/// The choices and skips of tables with aggregates over early and late atoms, by 01's reasons and by those of 02's request 4.
+fn print_saved() {
+    println!("\nchoices and skips, all defined elements blamed (01) and those that settle an aggregate (02, request 4)");
+    for late in [2, 4, 8, 12, 16] {
+        let table = tables::early_and_late(late);
+        let [whole, settling] = [false, true].map(|settling| {
+            let mut plan = [0; 256];
+            report(baseline::solve(&table.words, u32::MAX, &mut plan, Settings { jumping: true, by_head: true, settling })).1
+        });
+        println!("{:36} {:>10} {:>6} {:>10} {:>6}", table.name, whole[0], whole[1], settling[0], settling[1]);
+    }
+}
+
 fn main() {
     let tables = tables::all();
     let empty = vec![vec![0u8; 256]; tables.len()];
@@ -133,6 +146,7 @@ fn main() {
     let judged = tables::judged();
     let no_plans = vec![[vec![2u8], vec![0; 255]].concat(); judged.len()];
     let (_, judged_alike) = compare("judging alone (a check whose first byte is 2)", &approvers(), &judged, &no_plans);
+    print_saved();
     #[cfg(dock)]
     stack::print_peaks(&tables, u32::MAX);
     #[cfg(dock)]

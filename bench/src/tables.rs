@@ -232,6 +232,24 @@ fn aggregates(seed: u64) -> Named {
     builder.table("64 aggregates of 64 elements")
 }
 
+/// One early pair and `late` later ones; three aggregates over an atom of each, settled by the early one; then two pairs that no two of the aggregates leave
+/// a way for. Where all defined elements are blamed, every way to choose the late pairs is tried; where only what settles an aggregate is, none is.
+pub fn early_and_late(late: i32) -> Named {
+    let mut builder = Builder::new(2 * late + 6);
+    let elements = |early, later| -> Vec<(i32, i32)> { (0..=late).map(|pair| (if pair == 0 { early } else { later }, 2 * pair + 1)).collect() };
+    let sum = builder.aggregate(1, 1, 99, &elements(100, 1));
+    let min = builder.aggregate(2, 0, 3, &elements(1, 5));
+    let max = builder.aggregate(3, 1, 5, &elements(9, 1));
+    for pair in 0..late + 3 {
+        builder.rule(&[2 * pair + 1, 2 * pair + 2], &[], &[], &[]);
+    }
+    let (first, second) = (2 * late + 3, 2 * late + 5);
+    for (i, j, literals) in [(0, 0, [sum, min]), (0, 1, [sum, max]), (1, 0, [min, max]), (1, 1, [sum, max])] {
+        builder.rule(&[], &[first + i, second + j], &[], &literals);
+    }
+    builder.table(&format!("one early, {late} late pairs"))
+}
+
 pub fn all() -> Vec<Named> {
     vec![
         chain(),
@@ -246,6 +264,7 @@ pub fn all() -> Vec<Named> {
         colouring(50, 4, 140, 5),
         full(17),
         aggregates(10),
+        early_and_late(12),
     ]
 }
 

@@ -25,6 +25,8 @@ target/dock/runs texts <crates/run_texts/stdin | cmp - crates/run_texts/stdout
 echo "dock: $(wc -l <crates/run_texts/stdout) texts through C: as expected"
 target/dock/runs whys <crates/run_why/stdin | cmp - crates/run_why/stdout
 echo "dock: $(($(wc -l <crates/run_why/stdout) / 2)) explained plans through C: as expected"
+target/dock/runs whys <tools/dock/reasons/stdin | cmp - tools/dock/reasons/stdout
+echo "dock: $(($(wc -l <tools/dock/reasons/stdout) / 2)) calls with aggregates' reasons through C: as expected"
 target/dock/runs passes <tools/dock/passes/stdin | cmp - tools/dock/passes/stdout
 echo "dock: the passes of $(wc -l <tools/dock/passes/stdout) calls through C: as expected"
 if command -v cc >/dev/null && command -v rustc >/dev/null; then

@@ -115,7 +115,11 @@ impl<'a> Search<'a> {
     }
 
     fn add_literal_reason(&self, literal: i32, reason: &mut Levels) {
-        for element in self.table.aggregate(literal).elements.chunks_exact(2) {
+        let aggregate = self.table.aggregate(literal);
+        if self.settings.settling {
+            return aggregate.blame(&self.values, |p| reason.add(&self.reasons[p]));
+        }
+        for element in aggregate.elements.chunks_exact(2) {
             self.add_reason(element[1], reason);
         }
     }

@@ -30,6 +30,7 @@ lies-wide top t i h L = record {
   lowest = L .lowest;
   values = L .values;
   atoms = λ k g. let a = L .atoms k g in (a .0, omega (arith, a .1));
+  ascend = L .ascend;
   plain = L .plain;
 }
 

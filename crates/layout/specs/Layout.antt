@@ -98,6 +98,11 @@ startFrom t i (suc k) = startFrom t (pastAggregate t i) k
 abbrev pub aggregateOf : List ℤ → ℕ → Aggregate
 aggregateOf t j = aggregateAt t (startFrom t 2 (j - 1))
 
+-- "Atoms ascend strictly": each above the one before, the first above b
+abbrev pub Rising : ℕ → List Element → Type 0
+Rising b [] = Unit {0}
+Rising b (e ∷ es) = (b < e .atom) × Rising (e .atom) es
+
 -- an aggregate lies at i: "threshold (-1 to 4,194,304), element count (0 to 64), .. value (0 to 65,535)", atoms of 1 .. top
 pub record AggregateLies (top : ℕ) (t : List ℤ) (i : ℕ) : Type 0 where
   pub fits : pastAggregate t i ≤ length t
@@ -108,6 +113,7 @@ pub record AggregateLies (top : ℕ) (t : List ℤ) (i : ℕ) : Type 0 where
   pub lowest : (n : ℕ) → getD t (i + 2) (pos 0) ≡ negsuc n → n ≡ 0
   pub values : (k : ℕ) → k < natAt t (i + 3) → natAt t (i + 4 + 2 * k) ≤ 65535
   pub atoms : (k : ℕ) → k < natAt t (i + 3) → (1 ≤ natAt t (i + 4 + 2 * k + 1)) × (natAt t (i + 4 + 2 * k + 1) ≤ top)
+  pub ascend : Rising 0 (pairs (pairsAt t i))
   pub plain : Plain (pairsAt t i)
 
 -- ---- rules: head atoms, positive body atoms, negated body atoms, aggregate literals

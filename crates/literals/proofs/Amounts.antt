@@ -98,7 +98,7 @@ module _ (c : Comparison) (k : ℕ) (a : ℕ → Cell) where
 
 -- ---- the threshold
 
-passes-limit : (c : Comparison) (z : ℤ) (v : ℕ) → compares c z (some v) ≡ passesBy c (limitOf z) v
+pub passes-limit : (c : Comparison) (z : ℤ) (v : ℕ) → compares c z (some v) ≡ passesBy c (limitOf z) v
 passes-limit Less (ℤ.pos n) v = sym (ap (λ (m : ℕ). ltb m (n + 1)) (add-one v) ∙ ap (ltb (suc v)) (add-one n) ∙ leb·suc-suc (suc v) n)
 passes-limit Less (negsuc n) v = sym (leb·suc-zero (v + 1))
 passes-limit Greater (ℤ.pos n) v = sym (ap (λ (m : ℕ). leb m v) (add-one n))

@@ -11,11 +11,12 @@ use lib.IntN.{ℤ}
 use lib.ListN.{length, drop}
 use Rattle.layout.specs.Layout.{pairs}
 use Rattle.meaning.specs.declared.Comparison.{Comparison}
-use Rattle.interpretation.specs.State.{Cell}
+use Rattle.interpretation.specs.State.{Cell, truthOf}
 use Rattle.interpretation.specs.View.{cellBy, cellValue}
 use Rattle.interpretation.specs.declared.Value.{Value}
 use Rattle.interpretation.specs.declared.Value.the-variants.{True, False, Undefined}
-use Rattle.valuing.specs.Values.{saysTrue, opposite, decide}
+use Rattle.valuing.specs.Values.{saysTrue, opposite, decide, possibly}
+use Rattle.valuing.specs.Settling.{isFalse, isDefined}
 use Rattle.literals.specs.declared.aggregates.Totals.{Totals}
 use Rattle.literals.specs.Elements.{Marks, passesBy, partOf, addedBy, markedBy, marksOf, marksValue}
 use Rattle.literals.proofs.Pairs.{pairAt, pairs-whole}
@@ -48,6 +49,27 @@ added-byte (suc (suc b)) x t =
     ap (λ (y : Bool). record { low = t .low + partOf y x; high = t .high + partOf (ltb (suc (suc b)) 2) x }) (ne-eqb (suc (suc b)) 1 (λ h. omega arith))
     ∙ ap (λ (y : Bool). record { low = t .low + 0; high = t .high + partOf y x }) (le-ltb (suc (suc b)) 2 (omega arith))
     ∙ (λ i. record { low = e i; high = f i })
+
+-- the tests of a value by its byte
+pub true-byte : (b : ℕ) → eqb b 1 ≡ truthOf (cellBy b 0)
+true-byte zero = refl
+true-byte (suc zero) = refl
+true-byte (suc (suc b)) = ne-eqb (suc (suc b)) 1 (λ h. omega arith)
+
+pub false-byte : (b : ℕ) → ltb 1 b ≡ isFalse (cellBy b 0)
+false-byte zero = le-ltb 1 0 (omega arith)
+false-byte (suc zero) = le-ltb 1 1 (omega arith)
+false-byte (suc (suc b)) = lt-ltb 1 (suc (suc b)) (omega arith)
+
+pub defined-byte : (b : ℕ) → ltb 0 b ≡ isDefined (cellBy b 0)
+defined-byte zero = le-ltb 0 0 (omega arith)
+defined-byte (suc zero) = lt-ltb 0 1 (omega arith)
+defined-byte (suc (suc b)) = lt-ltb 0 (suc (suc b)) (omega arith)
+
+pub possibly-byte : (b : ℕ) → ltb b 2 ≡ possibly (cellBy b 0)
+possibly-byte zero = refl
+possibly-byte (suc zero) = refl
+possibly-byte (suc (suc b)) = le-ltb (suc (suc b)) 2 (omega arith)
 
 -- the tests of a byte that stands for false
 false-tests : (b : ℕ) (F : Bool → Bool → Marks) → F false false ≡ F (eqb (suc (suc b)) 1) (ltb (suc (suc b)) 2)

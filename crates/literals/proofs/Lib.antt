@@ -6,3 +6,8 @@ mod Walks
 mod Pairs
 mod Amounts
 mod Bytes
+mod Runs
+mod Marked
+mod Trues
+mod Singles
+mod Blamed

@@ -3,7 +3,7 @@ use mathlib.Core.Path.{_≡_, refl, sym, _∙_, ap, subst}
 use mathlib.Core.Logic.{_⊎_, inl, inr}
 use mathlib.Core.Bool.{Bool, true, false}
 use mathlib.Core.List.{List, [], _∷_}
-use Prim.Native.Nat.{ℕ, zero, suc, _+_, _-_, _*_, _≤_, _<_}
+use Prim.Native.Nat.{ℕ, zero, suc, _+_, _-_, _*_, _/_, _≤_, _<_}
 use native.Mathlib.Numerals.{add-one}
 use native.Mathlib.Omega.{arith}
 use lib.IntN.{ℤ, pos, negsuc, natAbs}
@@ -11,13 +11,9 @@ use lib.ListN.{length, getD, take, drop, drop-of-length-le}
 use lib.Seq.{drop-cons, getD-take, getD-drop}
 use Rattle.meaning.proofs.Cond.{ltCase}
 use Rattle.meaning.specs.Program.{Element}
-use Rattle.levels.specs.Levels.{Levels, union}
-use Rattle.interpretation.specs.State.{Cell}
 use Rattle.layout.specs.Layout.{natAt, pairs, pairsAt, pastAggregate, startFrom, AggregateLies, Laid, Members}
 use Rattle.layout.specs.declared.Table.{Table}
-use Rattle.valuing.specs.Reasons.{reasonAt, elementsReason}
 use Rattle.literals.specs.Elements.{Paired}
-use Rattle.literals.proofs.Together.{union-assoc}
 
 -- ---- one pair at a time
 
@@ -51,19 +47,21 @@ module _ (w : List ℤ) (n : ℕ) where
   pub pairs-whole : n ≤ 0 → pairs (drop (2 * n) w) ≡ pairs w
   pairs-whole h = let e : n ≡ 0 = omega arith in ap (λ (j : ℕ). pairs (drop (2 * j) w)) e
 
-  -- ---- reasons
-  module _ (a : ℕ → Cell) (r : ℕ → Levels) (B : Levels) where
-    abbrev p : ℕ
-    p = natAbs (getD w (2 * (n - 1) + 1) (pos 0))
+-- the pair at index 2 i, from the first on
+abbrev pub pairOn : List ℤ → ℕ → Element
+pairOn w i = record { value = natAbs (getD w (2 * i) (pos 0)); atom = natAbs (getD w (2 * i + 1) (pos 0)) }
 
-    pub elements-down : 0 < n → 2 * n ≤ length w → (A : Levels) → A ≡ union (elementsReason a r (pairs (drop (2 * n) w))) B
-        → union (reasonAt (a p) (r p)) A ≡ union (elementsReason a r (pairs (drop (2 * (n - 1)) w))) B
-    elements-down h k A e =
-        ap (union (reasonAt (a p) (r p))) e ∙ sym (union-assoc (reasonAt (a p) (r p)) (elementsReason a r (pairs (drop (2 * n) w))) B)
-        ∙ sym (ap (λ (es : List Element). union (elementsReason a r es) B) (pairs-down h k))
+pub pairs-on : (w : List ℤ) (i : ℕ) → 2 * i + 1 < length w → pairs (drop (2 * i) w) ≡ pairOn w i ∷ pairs (drop (2 * (i + 1)) w)
+pairs-on w i h =
+    let e : i ≡ i + 1 - 1 = omega arith in
+    ap (λ (j : ℕ). pairs (drop (2 * j) w)) e ∙ pairs-down w (i + 1) (omega arith) (omega arith)
+    ∙ sym (ap (λ (j : ℕ). pairOn w j ∷ pairs (drop (2 * (i + 1)) w)) e)
 
-    pub elements-end : length w ≤ 2 * n + 1 → B ≡ union (elementsReason a r (pairs (drop (2 * n) w))) B
-    elements-end h = sym (ap (λ (es : List Element). union (elementsReason a r es) B) (pairs-end h))
+pub pairs-length : (w : List ℤ) → length (pairs w) ≡ length w / 2
+unfolding pairs
+pairs-length [] = refl
+pairs-length (v ∷ []) = omega arith
+pairs-length (v ∷ p ∷ w) = let h = pairs-length w in omega arith
 
 -- ---- what lies in the table
 
@@ -121,6 +119,7 @@ module _ (t : List ℤ) (tb : Table) (L : Laid t tb) (l : List ℤ) (M : Members
         lowest = G .lowest;
         values = G .values;
         atoms = λ q g. let b = G .atoms q g in (b .0, omega arith);
+        ascend = G .ascend;
         plain = G .plain;
       }
 

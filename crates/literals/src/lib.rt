@@ -10,15 +10,15 @@ ghost use lib.ListN.{length, getD};
 ghost use Rattle.levels.specs.Levels.{union};
 ghost use Rattle.levels.specs.View.{row, rows};
 ghost use Rattle.interpretation.specs.View.{valued, cellBy, cellValue};
-ghost use Rattle.layout.specs.Layout.{Laid, Members, atoms, literalOf, pairs};
+ghost use Rattle.layout.specs.Layout.{Laid, Members, atoms, literalOf};
 ghost use Rattle.valuing.specs.Values.{saysTrue, saysFalse, signed, aggLit, literalValue};
-ghost use Rattle.valuing.specs.Reasons.{reasonAt, elementsReason, reasonOf, reasonsOf};
+ghost use Rattle.valuing.specs.Reasons.{reasonAt, reasonOf, reasonsOf};
 ghost use Rattle.literals.specs.Scan.{atomLits, literalLits, firstFalse, atomsReason};
-ghost use Rattle.literals.specs.Elements.{Paired};
 use interpretation::Value;
 use layout::Table;
 
 mod aggregates;
+mod settling;
 
 // The first false literal of a list, by its index from 0; or none is false.
 pub enum First {
@@ -168,29 +168,7 @@ pub fn false_literal(t: &[i32], tb: Table, l: &[i32], values: &[u8; 256]) -> Fir
     First::Nothing
 }
 
-// The reasons of the atoms of the pairs joined to a set, from the last pair to the first.
-pub fn elements_reason(
-    w: &[i32],
-    values: &[u8; 256],
-    reasons: &[[u64; 4]; 256],
-    more: [u64; 4],
-) -> [u64; 4]
-    requires { ⌜ Paired (now w) ⌝ }
-    ensures { λ r. ⌜ row r ≡ union (elementsReason (valued (now (values .entry))) (rows (now (reasons .entry))) (pairs (now (w .entry)))) (row more) ⌝ }
-{
-    let mut acc = more;
-    let mut left = w.len() / 2;
-    while 0 < left {
-        left -= 1;
-        let place = 2 * left + 1;
-        let p = words::atom(w, place);
-        let next = atom_reason(p, values, reasons, acc);
-        acc = next;
-    }
-    acc
-}
-
-// The reason of the aggregate literal at index k of a list, joined to a set: "the union over its defined element atoms".
+// The reason of the aggregate literal at index k of a list, joined to a set: the union over elements that settle it.
 pub fn literal_reason(
     t: &[i32],
     tb: Table,
@@ -204,8 +182,7 @@ pub fn literal_reason(
     ensures { λ r. ⌜ row r ≡ union (reasonOf (valued (now (values .entry))) (rows (now (reasons .entry))) (aggLit (literalOf (now (t .entry)) (getD (now (l .entry)) k (pos 0))))) (row more) ⌝ }
 {
     let at = start(tb, l, k);
-    let w = layout::pairs(t, at);
-    elements_reason(w, values, reasons, more)
+    settling::aggregate_reason(t, at, values, reasons, more)
 }
 
 // The reasons of all aggregate literals of a list joined to a set.

@@ -20,7 +20,7 @@ use Rattle.interpretation.specs.declared.Value.{Value}
 use Rattle.interpretation.specs.declared.Value.the-variants.{True, False, Undefined}
 use Rattle.valuing.specs.Values.{saysTrue, saysFalse, saysUndefined, Lit, value}
 use Rattle.steps.specs.Steps.{Verdict, settled, conflict, isSettled, headLits, bodyLits, Work, set, refuted, ifSettled, firstOf, isOther, orElse, stepRule, ruleReason, witness, Support, addSupport, support, setAll, stepE, stepD, stepTrue, stepDE, stepAtom, rulePass, atomPass, pass, passes, begin, propagate}
-use Rattle.literals.proofs.Alone.{value-alike}
+use Rattle.valuing.proofs.Alike.{value-alike}
 use Rattle.rules.specs.declared.Step.{Step}
 use Rattle.rules.specs.declared.Step.the-variants.{Nothing, Conflict, Set}
 use Rattle.rules.specs.Demand.{deniedLits, demandOf, did}

@@ -17,7 +17,7 @@ use Rattle.meaning.specs.declared.Function.{Function}
 use Rattle.meaning.specs.declared.Function.the-variants.{Count, Sum, Min, Max}
 use Rattle.meaning.specs.declared.Comparison.{Comparison}
 use Rattle.meaning.specs.declared.Comparison.the-variants.{Less, Greater}
-use Rattle.layout.specs.Layout.{natAt, functionBy, comparisonBy, pairs, pairsAt, Plain, pastAggregate, aggregateAt, startFrom, AggregateLies}
+use Rattle.layout.specs.Layout.{natAt, functionBy, comparisonBy, pairs, pairsAt, Plain, pastAggregate, aggregateAt, startFrom, Rising, AggregateLies}
 use Rattle.table.specs.Roles.{within}
 use Rattle.table.specs.Contents.{Each, Ascending, AggregateInRange, functionCode, comparisonCode, encodeElements, encodeAggregate, encodeAll, noAggregate}
 use Rattle.table.specs.Places.{placed}
@@ -88,6 +88,11 @@ module _ (t : List ℤ) where
       let z : suc (suc j) + 2 * k + 1 ≡ j + 2 * suc k + 1 = omega arith in
       subst (λ (n : ℕ). (1 ≤ natAt t n) × (natAt t n ≤ top)) z
       (element-atom top es (e .atom) (suc (suc j)) k rest (at-next t (suc j) _ _ (at-next t j _ _ d)) (v .2) (le-of-suc-le-suc h))
+
+-- the elements' atoms ascend
+ascending-rises : (top b : ℕ) (es : List Element) → Ascending top b (map (λ (e : Element). e .atom) es) → Rising b es
+ascending-rises top b [] h = tt
+ascending-rises top b (e ∷ es) h = (h .0, ascending-rises top (e .atom) es (h .2))
 
 -- ---- thresholds
 
@@ -163,13 +168,16 @@ module _ (t : List ℤ) (i : ℕ) (a : Aggregate) (rest : List ℤ) (d : drop i 
   words-are : pairsAt t i ≡ encodeElements (a .elements)
   words-are = ap (λ (n : ℕ). take n (drop (i + 4) t)) twice ∙ at-take t (i + 4) (encodeElements (a .elements)) rest d4
 
+  elements-are : pairs (pairsAt t i) ≡ a .elements
+  elements-are = ap pairs words-are ∙ elements-back (a .elements)
+
   pub aggregate-is : aggregateAt t i ≡ a
   unfolding aggregateAt
   aggregate-is = λ s. record {
     function = (ap functionBy word0 ∙ function-back (a .function)) s;
     comparison = (ap comparisonBy word1 ∙ comparison-back (a .comparison)) s;
     threshold = word2 s;
-    elements = (ap pairs words-are ∙ elements-back (a .elements)) s;
+    elements = elements-are s;
   }
 
   pub aggregate-lies : (top : ℕ) → AggregateInRange top a → AggregateLies top t i
@@ -183,6 +191,7 @@ module _ (t : List ℤ) (i : ℕ) (a : Aggregate) (rest : List ℤ) (d : drop i 
         threshold = λ n e. threshold-plain (a .threshold) n (r .threshold) (sym word2 ∙ e);
         lowest = λ n e. threshold-minus (a .threshold) n (r .threshold) (sym word2 ∙ e);
         values = λ k h. element-value t (a .elements) (i + 4) k rest d4 (r .values) (subst (λ (n : ℕ). k < n) word3 h);
+        ascend = subst (Rising 0) (sym elements-are) (ascending-rises top 0 (a .elements) (r .atoms));
         atoms = λ k h. element-atom t top (a .elements) 0 (i + 4) k rest d4 (r .atoms) (subst (λ (n : ℕ). k < n) word3 h);
         plain = subst Plain (sym words-are) (plain-elements (a .elements));
       }

@@ -13,15 +13,15 @@ use mathlib.Core.Path.{subst}
 use Rattle.levels.specs.Levels.{Levels, union}
 use Rattle.levels.specs.View.{row, rows}
 use Rattle.layout.specs.Layout.{pairs, pairsAt, aggregateAt}
-use Rattle.valuing.specs.Reasons.{elementsReason, reasonOf}
+use Rattle.valuing.specs.Settling.{settlingOf}
+use Rattle.valuing.specs.Reasons.{reasonsAt, reasonOf}
 use Rattle.literals.specs.Elements.{Paired}
 use Rattle.literals.proofs.Pairs.{numbered, place, lies-at, paired}
 use Rattle.literals.proofs.literal_reason.Statement.{statement}
 use Rattle.literals.proofs.literal_reason.Tie as tie
 use Rattle.literals.proofs.literal_reason.Reads as reads
 use Rattle.literals.proofs.literal_reason.Lts as lts
-use Rattle.layout.proofs.pairs.Reads as pairs-reads
-use Rattle.literals.proofs.elements_reason.Reads as elements-reason-reads
+use Rattle.literals.proofs.settling.aggregate_reason.Reads as aggregate-reason-reads
 use Rattle.literals.proofs.start.Reads as start-reads
 
 start-requires : tie.Need-start-requires
@@ -33,23 +33,19 @@ lying c =
     let p = c .before .pre in
     lies-at (a .t .now) (a .tb) (p .0) (a .l .now) (p .1) (a .k) (p .2) (c .start .result) (c .start .ensures)
 
-pairs-requires : tie.Need-pairs-requires
-pairs-requires c κs = (lying c) .fits
-
-elements-reason-requires : tie.Need-elements-reason-requires
-elements-reason-requires c κs = subst Paired (sym (c .pairs .ensures)) (paired (c .before .before .args .t .now) (c .before .start .result) (lying (c .before)))
+aggregate-reason-requires : tie.Need-aggregate-reason-requires
+aggregate-reason-requires c κs = lying c
 
 returns : tie.Need-returns
-unfolding reasonOf aggregateAt
+unfolding reasonOf
 returns c =
-    let s = c .before .before in
+    let s = c .before in
     let a = s .before .args in
     let p = s .before .pre in
     let X = valued (a .values .now) in
     let R = rows (a .reasons .now) in
-    c .elements-reason .ensures ∙ ap (λ (m : List ℤ). union (elementsReason X R (pairs m)) (row (a .more))) (c .before .pairs .ensures)
-    ∙ ap (λ (i : ℕ). union (elementsReason X R (pairs (pairsAt (a .t .now) i))) (row (a .more))) (s .start .ensures ∙ place (a .t .now) (a .tb) (p .0) (a .l .now) (p .1) (a .k) (p .2))
+    c .aggregate-reason .ensures
+    ∙ ap (λ (i : ℕ). union (reasonsAt R (settlingOf X (aggregateAt (a .t .now) i))) (row (a .more))) (s .start .ensures ∙ place (a .t .now) (a .tb) (p .0) (a .l .now) (p .1) (a .k) (p .2))
 
 pub literal-reason-spec : {M : Type 1} → statement M
-literal-reason-spec =
-    tie.close (tie.spec start-requires pairs-requires elements-reason-requires returns)
+literal-reason-spec = tie.close (tie.spec start-requires aggregate-reason-requires returns)
