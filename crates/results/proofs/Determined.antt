@@ -1,7 +1,7 @@
 -- A refusal is determined by its number and place, and a result by what it says: so a promise that names these fixes the result. Assumes nothing.
 --   refusal-determined                    of a refusal
 --   report-refusal, check-refusal         what says that it is refused with a number and a place is that refusal
---   report-determines, check-determines   of a result of solving, and of the check
+--   report-determines, check-determines   of a result of solving, and of the check;  pinned-determines: of a call that changes a session
 --   number-unique, place-unique           the promises of `number` and `place` have one answer each
 use mathlib.Core.Path.{_≡_, refl, sym, _∙_, ap}
 use mathlib.Core.List.{List, [], _∷_}
@@ -14,7 +14,9 @@ use Rattle.results.specs.declared.Solved.{Solved}
 use Rattle.results.specs.declared.Solved.the-variants as solved
 use Rattle.results.specs.declared.Checked.{Checked}
 use Rattle.results.specs.declared.Checked.the-variants as checked
-use Rattle.results.specs.Results.{numberOf, placeOf, Report, reportOf, refusalReport, CheckReport, checkReportOf, refusalCheck}
+use Rattle.results.specs.declared.Pinned.{Pinned}
+use Rattle.results.specs.declared.Pinned.the-variants as changed
+use Rattle.results.specs.Results.{numberOf, placeOf, Report, reportOf, refusalReport, CheckReport, checkReportOf, refusalCheck, pinnedReportOf}
 
 -- the refusal with a number and a place; 0, 18 and 19 are no refusal's number
 abbrev refusalAt : ℕ → ℕ → Refusal
@@ -129,6 +131,19 @@ check-determines checked.No (checked.Refused f) e = absurd (let z = checks e in 
 check-determines (checked.Refused f) s e =
     let w = check-refusal s (numberOf f) (placeOf f) (sym e) in
     ap checked.Refused (refusal-determined f (w .0) (sym (w .2)) (sym (w .3))) ∙ sym (w .1)
+
+-- ---- results of a call that changes a session
+
+pub pinned-refusal : (r : Pinned) (n i : ℕ) → pinnedReportOf r ≡ refusalCheck n i → (f : Refusal) × (r ≡ changed.Refused f) × (numberOf f ≡ n) × (placeOf f ≡ i)
+pinned-refusal changed.Done n i e = absurd (let z = checks e in omega arith)
+pinned-refusal (changed.Refused f) n i e = (f, refl, ap (λ (r : CheckReport). r .number) e, ap (λ (r : CheckReport). r .place) e)
+
+pub pinned-determines : (r s : Pinned) → pinnedReportOf r ≡ pinnedReportOf s → r ≡ s
+pinned-determines changed.Done changed.Done e = refl
+pinned-determines changed.Done (changed.Refused f) e = absurd (let z = checks e in omega arith)
+pinned-determines (changed.Refused f) s e =
+    let w = pinned-refusal s (numberOf f) (placeOf f) (sym e) in
+    ap changed.Refused (refusal-determined f (w .0) (sym (w .2)) (sym (w .3))) ∙ sym (w .1)
 
 -- ---- the public functions
 

@@ -3,7 +3,8 @@
 --   numberOf, placeOf    01's table "What comes back": the columns No. and Place; from 14 on the refusals that 02 adds ("place 0 unless it names another")
 --   reportOf             what each result of solving says; refusalReport n i: "for a refusal its number and place with counts 0"
 --   checkReportOf        what each result of the check says; refusalCheck n i: "refused with number and place"
---   kindOf, countsOf, checkKind   parts of these
+--   pinnedReportOf       what each result of a call that changes a session says (02, request 10); told as that of the check
+--   kindOf, countsOf, checkKind, pinnedKind   parts of these
 -- Assumes nothing.
 use Prim.Native.Nat.{ℕ}
 use Rattle.results.specs.declared.Refusal.{Refusal}
@@ -13,6 +14,8 @@ use Rattle.results.specs.declared.Solved.{Solved}
 use Rattle.results.specs.declared.Solved.the-variants as solved
 use Rattle.results.specs.declared.Checked.{Checked}
 use Rattle.results.specs.declared.Checked.the-variants as checked
+use Rattle.results.specs.declared.Pinned.{Pinned}
+use Rattle.results.specs.declared.Pinned.the-variants as changed
 
 abbrev pub numberOf : Refusal → ℕ
 numberOf refusal.TooManyWords = 1
@@ -112,3 +115,13 @@ refusalCheck n i = record { kind = 3; number = n; place = i }
 
 abbrev pub checkKind : Checked → ℕ
 checkKind r = checkReportOf r .kind
+
+-- ---- what a call that changes a session says: done or refused with number and place
+
+-- the kind is 0 done, 3 refused
+abbrev pub pinnedReportOf : Pinned → CheckReport
+pinnedReportOf changed.Done = record { kind = 0; number = 0; place = 0 }
+pinnedReportOf (changed.Refused f) = record { kind = 3; number = numberOf f; place = placeOf f }
+
+abbrev pub pinnedKind : Pinned → ℕ
+pinnedKind r = pinnedReportOf r .kind

@@ -88,6 +88,12 @@ pub enum Written {
     Refused(Refusal),
 }
 
+// The result of a call that changes a session: it is done, or a refusal, which leaves the session as it stood.
+pub enum Pinned {
+    Done,
+    Refused(Refusal),
+}
+
 // 01's number of a refusal; from 14 on 02's.
 pub fn number(r: Refusal) -> u32
     ensures { λ n. ⌜ n ≡ numberOf r ⌝ }

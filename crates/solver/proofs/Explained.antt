@@ -1,5 +1,5 @@
 -- The promise on rounds and rules: for a refused table, and for an accepted one by its result. The plan as it is written says the answer set, so what explains the
--- plan explains the answer. Assumes nothing.
+-- plan explains the answer. The answer may be the first of some answer sets only, as of those that agree with pins. Assumes nothing.
 use mathlib.Core.Path.{_≡_, refl, sym, _∙_, ap, subst, fun-ext}
 use mathlib.Core.Logic.{_⊎_, inl, inr}
 use mathlib.Core.Bool.{Bool, true, false}
@@ -77,18 +77,19 @@ after-long n limit old h = refl
 pub explaining-refused : (t : List ℤ) (b : Buffer) (plan : List ℕ) (f : Refusal) (ws : List Why) → Recorded ws noWhys → Explaining t b plan (solved.Refused f) ws
 explaining-refused t b plan f ws r = record { answers = λ c a k. absurd (omega arith); others = λ n. r }
 
-module _ (t : List ℤ) (lim : ℕ) (old new : List ℕ) (c : Contents) (a : Accepted t (Plan (length old)) c) (A : AtomsIn (c .atoms) (program c)) (ws : List Why) where
+module _ (t : List ℤ) (lim : ℕ) (old new : List ℕ) (c : Contents) (a : Accepted t (Plan (length old)) c) (A : AtomsIn (c .atoms) (program c))
+    (AS : Atoms → Type 0) (answers : (Y : Atoms) → AS Y → AnswerSet (program c) Y) (ws : List Why) where
   abbrev X : Atoms
   X = planAtoms (c .atoms) new
 
   -- what the plan says is the answer set
-  plan-answers : (k : Counts) → Meaning (c .atoms) (AnswerSet (program c)) lim old new (solved.Answer k) → AnswerSet (program c) X
+  plan-answers : (k : Counts) → Meaning (c .atoms) AS lim old new (solved.Answer k) → AnswerSet (program c) X
   plan-answers k m =
       let x = m .answers k refl in
       let n = c .atoms in
-      subst (AnswerSet (program c)) (sym (ap (planAtoms n) (x .written) ∙ plan-atoms n (x .atoms) old (answer-range n (program c) A (x .atoms) (x .isAnswer)))) (x .isAnswer)
+      subst (AnswerSet (program c)) (sym (ap (planAtoms n) (x .written) ∙ plan-atoms n (x .atoms) old (answer-range n (program c) A (x .atoms) (answers (x .atoms) (x .isAnswer))))) (answers (x .atoms) (x .isAnswer))
 
-  pub explaining-accepted : (r : Solved) → Meaning (c .atoms) (AnswerSet (program c)) lim old new r → Recorded ws (whysFor r (whyOf (program c) (c .atoms) X)) → Explaining t (Plan (length old)) new r ws
+  pub explaining-accepted : (r : Solved) → Meaning (c .atoms) AS lim old new r → Recorded ws (whysFor r (whyOf (program c) (c .atoms) X)) → Explaining t (Plan (length old)) new r ws
   explaining-accepted (solved.Answer k) m w = record {
     answers = λ d b e. subst (λ (x : Contents). Explained (program x) (x .atoms) (planAtoms (x .atoms) new) ws) (accepted-unique t (Plan (length old)) c d a b)
         (answer-recorded (c .atoms) (program c) A (a .noHead) X (plan-answers k m) ws w);

@@ -25,7 +25,7 @@ use results::Solved;
 use rounds::Why;
 use table::Fault;
 
-mod plans;
+pub mod plans;
 
 // What comes back from solving: the result, and for each atom why it is in the plan, atom p's at index p - 1.
 pub struct Solution {
@@ -90,7 +90,7 @@ fn is_answer(solved: Solved) -> bool
 }
 
 // Why each atom is in the plan that was written; without an answer no atom has a round or a rule.
-fn whys_for(words: &[i32], tb: Table, solved: Solved, plan: &[u8]) -> [Why; 256]
+pub fn whys_for(words: &[i32], tb: Table, solved: Solved, plan: &[u8]) -> [Why; 256]
     requires { ⌜ Laid (now words) tb × (256 ≤ length (now plan)) ⌝ }
     ensures { λ r. ⌜ Recorded r (whysFor solved (whyOf (programOf (now (words .entry)) tb) (tb .atoms) (planAtoms (tb .atoms) (now (plan .entry))))) ⌝ }
 {

@@ -7,6 +7,7 @@ use Prim.Native.Nat.{ℕ, _≤_}
 use native.Mathlib.Omega.{arith}
 use lib.ListN.{length}
 use Rattle.meaning.specs.Program.{Program}
+use Rattle.meaning.specs.Answers.{AnswerSet}
 use Rattle.results.specs.declared.Solved.the-variants as solved
 use Rattle.layout.specs.Layout.{programOf}
 use Rattle.table.specs.Contents.{Contents, program}
@@ -108,7 +109,7 @@ returns-2 c =
     let w = subst (Recorded (c .whys-for .result))
     (ap (λ (P : Program). whysFor q (whyOf P (tb .atoms) (planAtoms (tb .atoms) new))) (p .rules) ∙ ap (λ (n : ℕ). whysFor q (whyOf (program d) n (planAtoms n new))) (p .atoms))
     (c .whys-for .ensures) in
-    (z, explaining-accepted (a .words .now) (a .ask .limit) (a .plan .now) new d (x .1) A (c .whys-for .result) q (z .meaning d (x .1)) w)
+    (z, explaining-accepted (a .words .now) (a .ask .limit) (a .plan .now) new d (x .1) A (AnswerSet (program d)) (λ Y h. h) (c .whys-for .result) q (z .meaning d (x .1)) w)
 
 pub solve-with-spec : {M : Type 1} → statement M
 solve-with-spec = tie.close (tie.spec judge-by-requires enum-known-fault nothing-requires enum-told search-requires report-requires whys-for-requires returns same-length returns-2)

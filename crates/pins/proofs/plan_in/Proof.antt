@@ -1,0 +1,156 @@
+-- `pins::plan_in` meets its contract: the judge's refusal, or the report of the defined jumping search with the pins, with what explains its plan. Assumes nothing.
+use borrow.Author.Needs.{needs}
+use mathlib.Core.Path.{_≡_, refl, sym, ap, _∙_, subst}
+use mathlib.Core.List.{List}
+use Prim.Native.Nat.{ℕ, _≤_}
+use native.Mathlib.Omega.{arith}
+use lib.IntN.{ℤ}
+use lib.ListN.{length, take}
+use lib.Seq.{length-take-le}
+use Rattle.meaning.specs.Program.{Program}
+use Rattle.results.specs.Results.{numberOf, placeOf}
+use Rattle.layout.specs.Layout.{programOf}
+use Rattle.table.specs.Contents.{Contents, program}
+use Rattle.table.proofs.Accepted.{accepted-atoms}
+use Rattle.search.specs.Search.{jump, solve}
+use Rattle.search.specs.Base.{pinned}
+use Rattle.jumping.specs.Jumping.{endOf}
+use Rattle.judging.specs.declared.Buffer.the-variants.{Plan}
+use Rattle.judging.specs.Refusals.{Accepted, Refused}
+use Rattle.judging.specs.Judging.{Placed}
+use Rattle.judging.proofs.Judged.{plan-wide, judged-refused, judged-taken}
+use Rattle.rounds.specs.Rounds.{whyOf, Recorded}
+use Rattle.promises.specs.Plans.{planAtoms}
+use Rattle.promises.specs.Promises.{planAfter}
+use Rattle.solver.specs.Plans.{resultFor, whysFor}
+use Rattle.solver.proofs.Explained.{after-long, explaining-refused, explaining-accepted}
+use Rattle.sessions.specs.Sessions.{pinsOf, Agrees}
+use Rattle.pins.specs.Memory.{tableIn, pinsIn, takenOf}
+use Rattle.pins.proofs.Words.{number-small}
+use Rattle.pins.proofs.Planned.{planning-refused, planning-accepted}
+use Rattle.pins.proofs.plan_in.Statement.{statement}
+use Rattle.pins.proofs.plan_in.Tie as tie
+
+number-requires : tie.Need-number-requires
+number-requires c κs = search needs
+
+slice-aggregate-words : tie.Need-slice-aggregate-words
+slice-aggregate-words c =
+    let n = c .before in
+    let st = n .before .before in
+    let e = n .number .ensures in
+    let k = number-small (st .args .s .now) 16384 16384 in
+    let l = st .pre in
+    sym (length-take-le (n .number .result) (st .args .s .now) (omega arith))
+
+judge-requires : tie.Need-judge-requires
+judge-requires c κs = search needs
+
+enum-known-fault : tie.Need-enum-known-fault
+enum-known-fault c = search needs
+
+nothing-requires : tie.Need-nothing-requires
+nothing-requires c κs = search needs
+
+enum-told : tie.Need-enum-told
+enum-told c = search needs
+
+-- the words that are judged are the session's
+judged : (j : tie.After-judge) → let n = j .before .before in let a = n .before .before .args in take (n .number .result) (a .s .now) ≡ tableIn (a .s .now)
+judged j = let n = j .before .before in let a = n .before .before .args in ap (λ (k : ℕ). take k (a .s .now)) (n .number .ensures)
+
+-- what was accepted
+taken : (c : tie.After-tb) → let j = c .before .before .before in let n = j .before .before in let a = n .before .before .args in
+    (d : Contents) × Accepted (take (n .number .result) (a .s .now)) (Plan (length (a .plan .now))) d × Placed (take (n .number .result) (a .s .now)) (j .judge .result .table) d
+taken c =
+    let j = c .before .before .before in
+    let n = j .before .before in
+    let a = n .before .before .args in
+    judged-taken (take (n .number .result) (a .s .now)) (Plan (length (a .plan .now))) (j .judge .result) (j .judge .ensures) (c .before .enum-told .given .1)
+
+search-requires : tie.Need-search-requires
+search-requires c κs = (taken c .2 .laid, c .before .before .before .before .before .before .before .pre)
+
+report-requires : tie.Need-report-requires
+report-requires c κs =
+    let x = taken (c .before .before) in
+    let f = x .2 .laid .fewAtoms in
+    let w = plan-wide _ (x .1 .buffer) in
+    (f, omega arith)
+
+whys-for-requires : tie.Need-whys-for-requires
+whys-for-requires c κs =
+    let r = c .before .before .before in
+    let b = r .before .before .before in
+    let j = b .before .before .before in
+    let old = j .before .before .before .before .args .plan .now in
+    let tb = j .judge .result .table in
+    let x = taken b in
+    let f = x .2 .laid .fewAtoms in
+    let w = plan-wide _ (x .1 .buffer) in
+    let l : length (r .report .last .1 .1 .0) ≡ length old = ap (length {A = ℕ}) (r .report .ensures .1) ∙ after-long (tb .atoms) (resultFor (tb .atoms) (r .before .before .search .result)) old (omega (arith, f, w)) in
+    let g : 256 ≤ length (r .report .last .1 .1 .0) = omega (arith, l, w) in
+    (x .2 .laid, g)
+
+returns : tie.Need-returns
+returns c =
+    let f = c .before .before .fault .given in
+    let j = c .before .before .before .before in
+    let n = j .before .before in
+    let a = n .before .before .args in
+    let b = Plan (length (a .plan .now)) in
+    let h = subst (λ (t : List ℤ). Refused t b (numberOf (f .0 .0)) (placeOf (f .0 .0))) (judged j)
+    (judged-refused (take (n .number .result) (a .s .now)) b (j .judge .result) (f .0 .0) (j .judge .ensures) (f .1)) in (
+      planning-refused (tableIn (a .s .now)) (pinsIn (a .s .now)) (a .limit) (a .plan .now) (f .0 .0) h,
+      explaining-refused (tableIn (a .s .now)) b (a .plan .now) (f .0 .0) (c .nothing .result) (c .nothing .ensures),
+    )
+
+same-length : tie.Need-same-length
+same-length c = search needs
+
+returns-2 : tie.Need-returns-2
+returns-2 c =
+    let r = c .before .before .before .before in
+    let s = r .before .before in
+    let b = s .before in
+    let j = b .before .before .before in
+    let n = j .before .before in
+    let a = n .before .before .args in
+    let tb = j .judge .result .table in
+    let t = take (n .number .result) (a .s .now) in
+    let pins = pinsIn (a .s .now) in
+    let x = taken b in
+    let d = x .0 in
+    let p = x .2 in
+    let h = subst (λ (u : List ℤ). Accepted u (Plan (length (a .plan .now))) d) (judged j) (x .1) in
+    let A = accepted-atoms t d (x .1 .holds) in
+    let q = r .report .result in
+    let new = r .report .last .1 .1 .0 in
+    let g = s .search .ensures in
+    let o = endOf (tb .atoms) (s .search .result) (g .0) in
+    let e : solve (pinned (program d) (d .atoms) (pinsOf (takenOf (d .atoms) pins))) jump (a .limit) ≡ _ =
+    ap (λ (P : Program). solve (pinned P (d .atoms) (pinsOf (takenOf (d .atoms) pins))) jump (a .limit)) (sym (p .rules))
+    ∙ ap (λ (m : ℕ). solve (pinned (programOf t tb) m (pinsOf (takenOf m pins))) jump (a .limit)) (sym (p .atoms)) ∙ g .1 in
+    let z = planning-accepted (tableIn (a .s .now)) pins (a .limit) (a .plan .now) new q d h o e (r .report .ensures .0)
+    (r .report .ensures .1 ∙ ap (λ (m : ℕ). planAfter m (o .result) (a .plan .now)) (p .atoms)) in
+    let w = subst (Recorded (c .whys-for .result))
+    (ap (λ (P : Program). whysFor q (whyOf P (tb .atoms) (planAtoms (tb .atoms) new))) (p .rules) ∙ ap (λ (m : ℕ). whysFor q (whyOf (program d) m (planAtoms m new))) (p .atoms))
+    (c .whys-for .ensures) in
+    (z, explaining-accepted (tableIn (a .s .now)) (a .limit) (a .plan .now) new d h A (Agrees (program d) (takenOf (d .atoms) pins)) (λ Y k. k .isAnswer) (c .whys-for .result) q (z .meaning d h) w)
+
+pub plan-in-spec : {M : Type 1} → statement M
+plan-in-spec =
+    tie.close
+    (tie.spec
+    number-requires
+    slice-aggregate-words
+    judge-requires
+    enum-known-fault
+    nothing-requires
+    enum-told
+    search-requires
+    report-requires
+    whys-for-requires
+    returns
+    same-length
+    returns-2)

@@ -1,0 +1,86 @@
+// The search of a session: 01's, from the start that the pins make. "Pins are set before the first pass, in order, with empty reasons." A pin that `pin` would refuse
+// in a new session given the pins in this order is passed over; a session that `open` made holds none.
+ghost use mathlib.Core.Path.{_≡_};
+ghost use mathlib.Core.Bool.{Bool};
+ghost use Prim.Native.Nat.{_≤_};
+ghost use lib.ListN.{length};
+ghost use Rattle.layout.specs.Layout.{Laid, programOf};
+ghost use Rattle.interpretation.specs.View.{view, valued};
+ghost use Rattle.search.specs.Base.{pinned};
+ghost use Rattle.sessions.specs.Sessions.{pinsOf};
+ghost use Rattle.jumping.specs.Jumping.{Solves};
+ghost use Rattle.pins.specs.Memory.{pinsIn, takenOf};
+ghost use Rattle.pins.specs.Setting.{isFree, setPin, startWith};
+use crate::memory;
+use interpretation::Interpretation;
+use interpretation::Value;
+use layout::Table;
+use outcome::Found;
+use outcome::Start;
+
+// Whether an atom of 1 to n has no value yet.
+fn free(values: &[u8; 256], n: usize, p: usize) -> bool
+    requires { ⌜ n ≤ 256 ⌝ }
+    ensures { λ r. ⌜ r ≡ isFree n (valued (now (values .entry))) p ⌝ }
+{
+    if p < 1 {
+        return false;
+    }
+    if n < p {
+        return false;
+    }
+    let value = interpretation::value_of(values, p);
+    match value {
+        Value::Undefined => true,
+        Value::True => false,
+        Value::False => false,
+    }
+}
+
+// A pin set, if its atom is free: at level 0, since no level is present.
+fn set(it: Interpretation, n: usize, p: usize, v: bool) -> Interpretation
+    requires { ⌜ n ≤ 256 ⌝ }
+    ensures { λ r. ⌜ view r ≡ setPin n p v (view it) ⌝ }
+{
+    if !free(&it.values, n, p) {
+        return it;
+    }
+    it.set(p, v)
+}
+
+// Where the search starts.
+fn start(s: &[i32], n: usize) -> Interpretation
+    requires { ⌜ (n ≤ 256) × (length (now s) ≡ 16450) ⌝ }
+    ensures { λ r. ⌜ view r ≡ startWith (takenOf n (pinsIn (now (s .entry)))) ⌝ }
+{
+    let held = memory::number(s, memory::HELD, memory::MOST);
+    let mut it = Interpretation::start();
+    let mut i: usize = 0;
+    while i < held {
+        let p = memory::atom_at(s, i);
+        let v = memory::value_at(s, i);
+        it = set(it, n, p, v);
+        i += 1;
+    }
+    it
+}
+
+// The search over an accepted table with the pins of a session.
+pub fn search(t: &[i32], tb: Table, s: &[i32], limit: u32) -> Found
+    requires { ⌜ Laid (now t) tb × (length (now s) ≡ 16450) ⌝ }
+    ensures { λ r. ⌜ Solves (pinned (programOf (now (t .entry)) tb) (tb .atoms) (pinsOf (takenOf (tb .atoms) (pinsIn (now (s .entry)))))) limit r ⌝ }
+{
+    let mut lists = [0u16; heads::SIZE];
+    heads::fill(t, tb, &mut lists);
+    let n = tb.atoms;
+    let it = start(s, n);
+    let from = Start {
+        it,
+        choices: 0,
+        skips: 0,
+        passes: 0,
+    };
+    let reasons = levels::no_rows();
+    let halt = jumping::search_by(t, tb, &lists, limit, from, reasons);
+    halt.found
+}
