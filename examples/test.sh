@@ -12,6 +12,7 @@ if command -v objdump >/dev/null && command -v python3 >/dev/null; then
 fi
 cc -std=c11 -Wall -Wextra -Werror -O2 -I include examples/c/plan.c target/staticlib/libdock.a -o target/examples/plan_c
 cc -std=c11 -Wall -Wextra -Werror -O2 -I include examples/c/aspif.c target/staticlib/libdock.a -o target/examples/aspif
+cc -std=c11 -Wall -Wextra -Werror -O2 -I include examples/c/pins.c target/staticlib/libdock.a -o target/examples/pins_c
 rustc -O --edition 2021 -D warnings -L target/staticlib -l static=dock examples/rust/plan.rs -o target/examples/plan_rust
 for program in plan_c plan_rust; do
     "target/examples/$program" | diff - examples/expected
@@ -24,3 +25,5 @@ done
     printf 'asp 1 0 0\n1 1 1 1 0 0\n0\n' | target/examples/aspif read || true
 } | diff - examples/expected-aspif
 echo "aspif: ok"
+target/examples/pins_c | diff - examples/expected_pins
+echo "pins_c: ok"

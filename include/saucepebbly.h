@@ -54,6 +54,11 @@ enum {
     SAUCEPEBBLY_WROTE = 0 /* the words, or the text, are written; report: how many words or bytes, 0 */
 };
 
+/* What saucepebbly_open, saucepebbly_pin and saucepebbly_unpin return; or SAUCEPEBBLY_REFUSED. */
+enum {
+    SAUCEPEBBLY_DONE = 0 /* the session is changed; report: 0, 0 */
+};
+
 /* The number of a refusal: report[0] where an entry says SAUCEPEBBLY_REFUSED; report[1] is its place. */
 enum {
     SAUCEPEBBLY_TOO_MANY_WORDS = 1,   /* more than 16,384 words; place 0 */
@@ -70,6 +75,10 @@ enum {
     SAUCEPEBBLY_OUTSIDE_SUBSET = 14,  /* aspif: a line outside the subset, or missing; its number, from 1 */
     SAUCEPEBBLY_BEYOND_RANGE = 15,    /* aspif: a number, list or table beyond the ranges; the line's number, from 1 */
     SAUCEPEBBLY_SHORT_BUFFER = 16,    /* the buffer is too short for the whole text; place 0 */
+    SAUCEPEBBLY_PIN_NUMBER = 20,      /* pin: the atom is 0 or above the table's; place 0 */
+    SAUCEPEBBLY_PIN_TWICE = 21,       /* pin: the atom is pinned already, the same way or the other; place 0 */
+    SAUCEPEBBLY_PINS_FULL = 22,       /* pin: there are 64 pins; place 0 */
+    SAUCEPEBBLY_NO_PIN = 23,          /* unpin: there is no pin; place 0 */
     SAUCEPEBBLY_SHORT_WORDS = 25      /* the buffer for words has fewer than 16,384; place 0 */
 };
 
@@ -109,6 +118,28 @@ uint32_t saucepebbly_read_aspif(const uint8_t *text, size_t text_len, int32_t *w
  * are the table's, each from exactly one of the text's. Refused as by saucepebbly_solve, without 10; then, if the buffer is too short, by 16. */
 uint32_t saucepebbly_write_aspif(const int32_t *words, size_t words_len, uint8_t *text, size_t text_len,
                                  uint32_t *report, size_t report_len);
+
+/* Sessions. A session keeps a table and at most 64 pins, in memory that the caller lends: SAUCEPEBBLY_SESSION_WORDS words of 32 bits, 65,800 bytes, aligned
+ * to 4. It has its own copy of the words, so that the caller's buffer is free after saucepebbly_open. What stands in the memory is the library's; it may be copied
+ * and kept, and a call on a copy gives what a call on the session would. No content is dangerous: memory of zeros holds no words and no pins, so a plan is refused
+ * with SAUCEPEBBLY_ABSENT_WORD, 0; of any other content that no saucepebbly_open made the words are judged at each plan, and pins that would be refused are
+ * passed over. */
+#define SAUCEPEBBLY_SESSION_WORDS 16450
+
+/* Begins a session with this table and no pins. The table is refused as saucepebbly_solve refuses it, without SAUCEPEBBLY_SHORT_PLAN; then the session
+ * stays as it stood, byte for byte. */
+uint32_t saucepebbly_open(const int32_t *words, size_t words_len, int32_t *session, uint32_t *report, size_t report_len);
+
+/* Pins an atom, false with the value 0 and true with any other. Refused with 20, 21 and 22, tested in that order; then the session stays as it stood. */
+uint32_t saucepebbly_pin(int32_t *session, uint32_t atom, uint32_t value, uint32_t *report, size_t report_len);
+
+/* Takes the last pin off. Refused with 23; then the session stays as it stood. */
+uint32_t saucepebbly_unpin(int32_t *session, uint32_t *report, size_t report_len);
+
+/* The first answer set of the session's table that agrees with all pins: result, plan, report and whys as of saucepebbly_solve. The plan buffer is judged first.
+ * The session is not changed. */
+uint32_t saucepebbly_plan(const int32_t *session, uint32_t limit, uint8_t *plan, size_t plan_len, uint32_t *report, size_t report_len,
+                          uint16_t *whys, size_t whys_len);
 
 #ifdef __cplusplus
 }

@@ -15,10 +15,12 @@ else
     echo "dock: not looked for probe loops, since there is no objdump or no python3"
 fi
 mkdir -p target/dock
-"$tools/clang" -std=c11 -Wall -Wextra -Werror -O2 -ffreestanding -fPIE -I include -c tools/dock/runs.c -o target/dock/runs.o
-"$tools/ld.lld" -pie -melf_x86_64 -z relro -z now -z noexecstack -dynamic-linker /lib64/ld-linux-x86-64.so.2 -o target/dock/runs \
-    "$lib/Scrt1.o" "$lib/crti.o" "$lib/crtbeginS.o" target/dock/runs.o "$library" \
-    "$lib/libc.so.6" "$lib/libc_nonshared.a" "$lib/ld-linux-x86-64.so.2" "$lib/libgcc.a" "$lib/crtendS.o" "$lib/crtn.o"
+for program in runs pins; do
+    "$tools/clang" -std=c11 -Wall -Wextra -Werror -O2 -ffreestanding -fPIE -I include -c tools/dock/$program.c -o target/dock/$program.o
+    "$tools/ld.lld" -pie -melf_x86_64 -z relro -z now -z noexecstack -dynamic-linker /lib64/ld-linux-x86-64.so.2 -o target/dock/$program \
+        "$lib/Scrt1.o" "$lib/crti.o" "$lib/crtbeginS.o" target/dock/$program.o "$library" \
+        "$lib/libc.so.6" "$lib/libc_nonshared.a" "$lib/ld-linux-x86-64.so.2" "$lib/libgcc.a" "$lib/crtendS.o" "$lib/crtn.o"
+done
 target/dock/runs tables <crates/run_tables/stdin | cmp - crates/run_tables/stdout
 echo "dock: $(wc -l <crates/run_tables/stdout) tables through C: as expected"
 target/dock/runs texts <crates/run_texts/stdin | cmp - crates/run_texts/stdout
@@ -29,6 +31,12 @@ target/dock/runs whys <tools/dock/reasons/stdin | cmp - tools/dock/reasons/stdou
 echo "dock: $(($(wc -l <tools/dock/reasons/stdout) / 2)) calls with aggregates' reasons through C: as expected"
 target/dock/runs passes <tools/dock/passes/stdin | cmp - tools/dock/passes/stdout
 echo "dock: the passes of $(wc -l <tools/dock/passes/stdout) calls through C: as expected"
+target/dock/pins scripts <tools/dock/pins/scripts | cmp - tools/dock/pins/scripts.stdout
+echo "dock: $(wc -l <tools/dock/pins/scripts) calls of sessions through C: as expected"
+target/dock/pins sets <tools/dock/pins/sets | cmp - tools/dock/pins/sets.stdout
+echo "dock: $(wc -l <tools/dock/pins/sets.stdout) sets of up to three pins through C: as the enumerator has them"
+test "$(target/dock/pins wild)" = "wild: as it should be"
+echo "dock: calls on sessions that no open made: no harm"
 if command -v cc >/dev/null && command -v rustc >/dev/null; then
     sh examples/test.sh
 else

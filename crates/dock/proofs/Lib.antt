@@ -6,3 +6,4 @@ pub mod Places
 pub mod PlainEntry
 pub mod ReadingEntry
 pub mod WritingEntry
+pub mod SessionEntries

@@ -4,3 +4,4 @@ pub mod Dock
 pub mod Plain
 pub mod Reading
 pub mod Writing
+pub mod Session

@@ -12,6 +12,7 @@ use results::Solved;
 
 mod plainly;
 mod reading;
+mod session;
 mod whys;
 mod writing;
 

@@ -76,7 +76,7 @@ fn pin_in(s: &mut [i32], atom: usize, value: bool) -> Pinned
         return Pinned::Refused(Refusal::PinsFull);
     }
     memory::push(s, held, atom, value);
-    Pinned::Done
+    Pinned::Done // the pin is held
 }
 
 // Takes the last pin off, or refuses with 23.

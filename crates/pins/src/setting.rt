@@ -2,9 +2,10 @@
 // in a new session given the pins in this order is passed over; a session that `open` made holds none.
 ghost use mathlib.Core.Path.{_≡_};
 ghost use mathlib.Core.Bool.{Bool};
-ghost use Prim.Native.Nat.{_≤_};
+ghost use Prim.Native.Nat.{_≤_, _<_};
 ghost use lib.ListN.{length};
 ghost use Rattle.layout.specs.Layout.{Laid, programOf};
+ghost use Rattle.interpretation.specs.State.{setAt};
 ghost use Rattle.interpretation.specs.View.{view, valued};
 ghost use Rattle.search.specs.Base.{pinned};
 ghost use Rattle.sessions.specs.Sessions.{pinsOf};
@@ -37,15 +38,23 @@ fn free(values: &[u8; 256], n: usize, p: usize) -> bool
     }
 }
 
-// A pin set, if its atom is free: at level 0, since no level is present.
+// A pin is no choice: its atom is set at the present level, which is 0, and no level is opened.
+fn put(it: Interpretation, p: usize, v: bool) -> Interpretation
+    requires { ⌜ (1 ≤ p) × (p ≤ 256) × (it .depth < 256) ⌝ }
+    ensures { λ r. ⌜ view r ≡ setAt p v (view it) ⌝ }
+{
+    it.set(p, v)
+}
+
+// A pin set, if its atom is free.
 fn set(it: Interpretation, n: usize, p: usize, v: bool) -> Interpretation
-    requires { ⌜ n ≤ 256 ⌝ }
+    requires { ⌜ (n ≤ 256) × (it .depth < 256) ⌝ }
     ensures { λ r. ⌜ view r ≡ setPin n p v (view it) ⌝ }
 {
     if !free(&it.values, n, p) {
         return it;
     }
-    it.set(p, v)
+    put(it, p, v)
 }
 
 // Where the search starts.

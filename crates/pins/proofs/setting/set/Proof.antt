@@ -24,18 +24,18 @@ returns c =
     let a = c .before .before .before .before .args in
     sym (ap (λ (b : Bool). cond b (setAt (a .p) (a .v) (view (a .t1))) (view (a .t1))) (sym (freed (c .before)) ∙ not-true _ (c .if1 .taken)))
 
-set-requires : tie.Need-set-requires
-set-requires c κs =
+put-requires : tie.Need-put-requires
+put-requires c κs =
     let s = c .before .before .before .before in
     let i = free-in (s .args .n) (view (s .args .t1) .cell) (s .args .p) (sym (freed (c .before)) ∙ not-false _ (c .if1 .left)) in
     let h = s .pre in
-    (i .0, omega (arith, i .1))
+    (i .0, omega (arith, i .1, h .0), h .1)
 
 returns-2 : tie.Need-returns-2
 returns-2 c =
     let e = c .before in
     let a = e .before .before .before .before .args in
-    c .set .ensures ∙ sym (ap (λ (b : Bool). cond b (setAt (a .p) (a .v) (view (a .t1))) (view (a .t1))) (sym (freed (e .before)) ∙ not-false _ (e .if1 .left)))
+    c .put .ensures ∙ sym (ap (λ (b : Bool). cond b (setAt (a .p) (a .v) (view (a .t1))) (view (a .t1))) (sym (freed (e .before)) ∙ not-false _ (e .if1 .left)))
 
 pub set-spec : {M : Type 1} → statement M
-set-spec = tie.close (tie.spec free-requires returns set-requires returns-2)
+set-spec = tie.close (tie.spec free-requires returns put-requires returns-2)

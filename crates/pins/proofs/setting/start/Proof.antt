@@ -47,7 +47,10 @@ value-at-requires c κs =
     (omega arith, n .before .pre .1)
 
 set-requires : tie.Need-set-requires Inv-loop μ-loop
-set-requires c κs = search needs
+set-requires c κs =
+    let b = c .before .before .before in
+    let d : b .loop .it .depth ≡ 0 = ap (λ (x : Interpretation). x .level) (b .loop .inv .1) in
+    (b .before .before .before .pre .0, omega (arith, d))
 
 add-i : tie.Need-add-i Inv-loop μ-loop
 add-i c = search needs
