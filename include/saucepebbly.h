@@ -12,7 +12,8 @@
  *   (35,844 and 4,096 bytes) and never null. What they hold before a call does not matter, and nothing is said of what
  *   they hold after it. One pair serves all calls that do not run in parallel.
  * - At most 16,384 words are looked at: with more the table is refused by its length alone.
- * - Nothing is kept, nothing is allocated, there is no global memory. Calls may run in parallel.
+ * - Nothing is kept but in a session that the caller lends, nothing is allocated, there is no global memory. Calls may
+ *   run in parallel.
  * - The library calls memcpy and memset, and nothing else of the C library.
  * - A report that is shorter than what an entry writes there is not written at all. The check leaves it alone on yes and no.
  *
@@ -119,27 +120,27 @@ uint32_t saucepebbly_read_aspif(const uint8_t *text, size_t text_len, int32_t *w
 uint32_t saucepebbly_write_aspif(const int32_t *words, size_t words_len, uint8_t *text, size_t text_len,
                                  uint32_t *report, size_t report_len);
 
-/* Sessions. A session keeps a table and at most 64 pins, in memory that the caller lends: SAUCEPEBBLY_SESSION_WORDS words of 32 bits, 65,800 bytes, aligned
- * to 4. It has its own copy of the words, so that the caller's buffer is free after saucepebbly_open. What stands in the memory is the library's; it may be copied
- * and kept, and a call on a copy gives what a call on the session would. No content is dangerous: memory of zeros holds no words and no pins, so a plan is refused
- * with SAUCEPEBBLY_ABSENT_WORD, 0; of any other content that no saucepebbly_open made the words are judged at each plan, and pins that would be refused are
- * passed over. */
+/* Sessions. A session keeps a table and at most 64 pins, in memory that the caller lends: SAUCEPEBBLY_SESSION_WORDS words of 32 bits, which are
+ * 65,800 bytes, aligned to 4. It has its own copy of the words, so the caller's buffer is free again after saucepebbly_open. What stands in the
+ * memory is the library's; it may be copied, and a call on the copy gives what a call on the session would. No content is dangerous: memory of
+ * zeros holds no words and no pins, so a plan is refused with SAUCEPEBBLY_ABSENT_WORD, 0; of any other content that no saucepebbly_open made the
+ * words are judged at each plan, and pins that would be refused are passed over. */
 #define SAUCEPEBBLY_SESSION_WORDS 16450
 
-/* Begins a session with this table and no pins. The table is refused as saucepebbly_solve refuses it, without SAUCEPEBBLY_SHORT_PLAN; then the session
- * stays as it stood, byte for byte. */
+/* Begins a session with this table and no pins. The table is refused as saucepebbly_solve refuses it, without SAUCEPEBBLY_SHORT_PLAN; then the
+ * session stays as it stood, byte for byte. */
 uint32_t saucepebbly_open(const int32_t *words, size_t words_len, int32_t *session, uint32_t *report, size_t report_len);
 
-/* Pins an atom, false with the value 0 and true with any other. Refused with 20, 21 and 22, tested in that order; then the session stays as it stood. */
+/* Pins an atom: false with the value 0, true with any other. Refused with 20, 21 and 22, tested in that order; then the session stays as it stood. */
 uint32_t saucepebbly_pin(int32_t *session, uint32_t atom, uint32_t value, uint32_t *report, size_t report_len);
 
 /* Takes the last pin off. Refused with 23; then the session stays as it stood. */
 uint32_t saucepebbly_unpin(int32_t *session, uint32_t *report, size_t report_len);
 
-/* The first answer set of the session's table that agrees with all pins: result, plan, report and whys as of saucepebbly_solve. The plan buffer is judged first.
- * The session is not changed. */
-uint32_t saucepebbly_plan(const int32_t *session, uint32_t limit, uint8_t *plan, size_t plan_len, uint32_t *report, size_t report_len,
-                          uint16_t *whys, size_t whys_len);
+/* The first answer set of the session's table that agrees with all pins: result, plan, report and whys are told as by saucepebbly_solve, with
+ * SAUCEPEBBLY_SHORT_PLAN before all other refusals. The session is not changed. */
+uint32_t saucepebbly_plan(const int32_t *session, uint32_t limit, uint8_t *plan, size_t plan_len,
+                          uint32_t *report, size_t report_len, uint16_t *whys, size_t whys_len);
 
 #ifdef __cplusplus
 }

@@ -17,7 +17,7 @@ BEGIN, END = "<!-- believed: begin -->", "<!-- believed: end -->"
 # where the functions stand that someone outside the repository calls
 PUBLIC = [
     "results/src/lib.rt", "solver/src/lib.rt", "plain/src/lib.rt", "text/src/reader.rt", "text/src/printer.rt", "reply/src/lib.rt",
-    "aspif_read/src/lib.rt", "aspif_write/src/lib.rt", "stored/src/lib.rt",
+    "aspif_read/src/lib.rt", "aspif_write/src/lib.rt", "stored/src/lib.rt", "pins/src/lib.rt",
 ]
 PUBLIC_FOLDERS = ["dock/src"]
 WORD = r"[^\s(){}\[\]⌜⌝,;.λ:=]+"
@@ -132,7 +132,8 @@ def contracts():
         found = imports(text, crate)
         for m in re.finditer(r"pub (?:extern \"C\" )?fn (\w+)(.*?)\n\s*\{\s*\n", text, re.S):
             clauses = "\n".join(re.findall(r"(?:ensures|requires)[^{]*\{(.*?)\}\s*$", m.group(2), re.S | re.M)) or m.group(2)
-            if "ensures" in m.group(2):
+            # a function that asks something of its caller is an inner one
+            if "ensures" in m.group(2) and "requires" not in m.group(2):
                 yield f"{crate}::{m.group(1)}", tokens(clauses), found
 
 
