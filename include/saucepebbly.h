@@ -129,7 +129,8 @@ uint32_t saucepebbly_write_aspif(const int32_t *words, size_t words_len, uint8_t
 
 /* Begins a session with this table and no pins. The table is refused as saucepebbly_solve refuses it, without SAUCEPEBBLY_SHORT_PLAN; then the
  * session stays as it stood, byte for byte. */
-uint32_t saucepebbly_open(const int32_t *words, size_t words_len, int32_t *session, uint32_t *report, size_t report_len);
+uint32_t saucepebbly_open(const int32_t *words, size_t words_len, int32_t *session, uint32_t *report, size_t report_len,
+                          uint16_t *lists);
 
 /* Pins an atom: false with the value 0, true with any other. Refused with 20, 21 and 22, tested in that order; then the session stays as it stood. */
 uint32_t saucepebbly_pin(int32_t *session, uint32_t atom, uint32_t value, uint32_t *report, size_t report_len);
@@ -140,7 +141,8 @@ uint32_t saucepebbly_unpin(int32_t *session, uint32_t *report, size_t report_len
 /* The first answer set of the session's table that agrees with all pins: result, plan, report and whys are told as by saucepebbly_solve, with
  * SAUCEPEBBLY_SHORT_PLAN before all other refusals. The session is not changed. */
 uint32_t saucepebbly_plan(const int32_t *session, uint32_t limit, uint8_t *plan, size_t plan_len,
-                          uint32_t *report, size_t report_len, uint16_t *whys, size_t whys_len);
+                          uint32_t *report, size_t report_len, uint16_t *whys, size_t whys_len, uint16_t *lists,
+                          uint32_t *candidates);
 
 #ifdef __cplusplus
 }

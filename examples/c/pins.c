@@ -17,6 +17,10 @@ static const int32_t TABLE[] = {
 /* The session's memory is the caller's; nothing else is kept between the calls. */
 static int32_t session[SAUCEPEBBLY_SESSION_WORDS];
 
+/* Memory that a call works in. */
+static uint16_t lists[SAUCEPEBBLY_LISTS];
+static uint32_t candidates[SAUCEPEBBLY_CANDIDATES];
+
 static void expect(int is_so, const char *what) {
     if (!is_so) {
         printf("WRONG: %s\n", what);
@@ -28,7 +32,7 @@ static void show_plan(const char *pins) {
     static const char *const names[] = {"answer", "none", "limit", "refused"};
     uint8_t plan[256] = {0};
     uint32_t report[2] = {0, 0};
-    uint32_t kind = saucepebbly_plan(session, 100, plan, sizeof plan, report, 2, NULL, 0);
+    uint32_t kind = saucepebbly_plan(session, 100, plan, sizeof plan, report, 2, NULL, 0, lists, candidates);
     printf("%-16s %s %u %u", pins, names[kind], (unsigned)report[0], (unsigned)report[1]);
     for (int i = 0; kind == SAUCEPEBBLY_ANSWER && i < TABLE[0]; i++) {
         if (plan[i] == 1) {
@@ -57,7 +61,7 @@ int main(void) {
     uint32_t report[2] = {0, 0};
     show_plan("never opened"); /* no words: the first is absent */
 
-    expect(saucepebbly_open(TABLE, TABLE_WORDS, session, report, 2) == SAUCEPEBBLY_DONE, "the table is accepted");
+    expect(saucepebbly_open(TABLE, TABLE_WORDS, session, report, 2, lists) == SAUCEPEBBLY_DONE, "the table is accepted");
     show_plan("no pins");
     pin(1, 0); /* lane 1 is shut */
     show_plan("1 shut");

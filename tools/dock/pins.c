@@ -95,6 +95,8 @@ static int32_t session[SAUCEPEBBLY_SESSION_WORDS], before[SAUCEPEBBLY_SESSION_WO
 static uint8_t plan[257];
 static uint16_t whys[512];
 static uint32_t report[3];
+static uint16_t lists[SAUCEPEBBLY_LISTS];
+static uint32_t candidates[SAUCEPEBBLY_CANDIDATES];
 
 static void keep(void) {
     for (size_t i = 0; i < SAUCEPEBBLY_SESSION_WORDS; i++)
@@ -112,7 +114,7 @@ static uint32_t open_words(size_t count) {
     for (size_t i = 0; i < count; i++)
         words[i] = (int32_t)numbers[i];
     keep();
-    uint32_t kind = saucepebbly_open(words, count, session, report, 3);
+    uint32_t kind = saucepebbly_open(words, count, session, report, 3, lists);
     for (size_t i = 0; i < count; i++)
         words[i] = -1; /* the session has its own copy */
     return kind;
@@ -136,7 +138,7 @@ static uint32_t make_plan(size_t room, uint32_t limit) {
     for (int i = 0; i < 512; i++)
         whys[i] = 9;
     keep();
-    return saucepebbly_plan(session, limit, plan, room, report, 3, whys, 512);
+    return saucepebbly_plan(session, limit, plan, room, report, 3, whys, 512, lists, candidates);
 }
 
 static void put_atoms(void) {

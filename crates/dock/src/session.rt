@@ -13,6 +13,8 @@ use crate::third;
 use crate::whys;
 use crate::write;
 use crate::write_third;
+use foundation::Candidates;
+use heads::Lists;
 use pins::Session;
 use results::Pinned;
 
@@ -48,10 +50,15 @@ fn changed_second(pinned: Pinned) -> u32
 
 // Begins a session: the kind of the result, and in the report a refusal's number and place.
 #[no_mangle]
-pub extern "C" fn saucepebbly_open(words: &[i32], session: &mut Session, report: &mut [u32]) -> u32
+pub extern "C" fn saucepebbly_open(
+    words: &[i32],
+    session: &mut Session,
+    report: &mut [u32],
+    lists: &mut Lists,
+) -> u32
     ensures { λ k. ⌜ Opens (now (words .entry)) (now (session .entry)) (now (session .exit)) (now (report .entry)) (now (report .exit)) k ⌝ }
 {
-    let pinned = pins::open(words, session);
+    let pinned = pins::open_with(words, session, lists);
     write(report, changed_first(pinned), changed_second(pinned));
     changed_kind(pinned)
 }
@@ -89,10 +96,12 @@ pub extern "C" fn saucepebbly_plan(
     plan: &mut [u8],
     report: &mut [u32],
     whys: &mut [u16],
+    lists: &mut Lists,
+    candidates: &mut Candidates,
 ) -> u32
     ensures { λ k. ⌜ PlansInC (now (session .entry)) limit (now (plan .entry)) (now (plan .exit)) (now (report .entry)) (now (report .exit)) (now (whys .entry)) (now (whys .exit)) k ⌝ }
 {
-    let solution = pins::plan(session, limit, plan);
+    let solution = pins::plan_with(session, limit, plan, lists, candidates);
     let solved = solution.solved;
     let records = solution.whys;
     whys::write(records, whys);

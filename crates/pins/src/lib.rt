@@ -8,6 +8,8 @@ ghost use lib.ListN.{length};
 ghost use Rattle.sessions.specs.Sessions.{pin, unpin};
 ghost use Rattle.meaning.specs.Cycles.{inside};
 ghost use Rattle.pins.specs.Session.{Opening, Changing, Plans};
+use foundation::Candidates;
+use heads::Lists;
 use judging::Buffer;
 use layout::Table;
 use results::Pinned;
@@ -22,18 +24,27 @@ mod setting;
 // The memory of a session.
 pub type Session = [i32; memory::SIZE];
 
-// Begins a session with a table and no pin, or refuses the table as solving does, without 10; a refusal leaves the session as it stood.
+// Begins a session with a table and no pin, or refuses the table as solving does, without 10; a refusal leaves the session as it stood. The memory that the
+// judge works in is lent: nothing is said of what it holds before or after, and nothing depends on it.
+pub fn open_with(words: &[i32], session: &mut Session, lists: &mut Lists) -> Pinned
+    ensures { λ r. ⌜ Opening (now (words .entry)) (now (session .entry)) (now (session .exit)) r ⌝ }
+{
+    open_in(words, session, lists)
+}
+
+// The same with memory of its own.
 pub fn open(words: &[i32], session: &mut Session) -> Pinned
     ensures { λ r. ⌜ Opening (now (words .entry)) (now (session .entry)) (now (session .exit)) r ⌝ }
 {
-    open_in(words, session)
+    let mut lists = [0u16; heads::SIZE];
+    open_with(words, session, &mut lists)
 }
 
-fn open_in(words: &[i32], s: &mut [i32]) -> Pinned
+fn open_in(words: &[i32], s: &mut [i32], lists: &mut Lists) -> Pinned
     requires { ⌜ length (now s) ≡ 16450 ⌝ }
     ensures { λ r. ⌜ Opening (now (words .entry)) (now (s .entry)) (now (s .exit)) r ⌝ }
 {
-    let judged = judging::judge(words, Buffer::Nothing);
+    let judged = judging::judge_by(words, Buffer::Nothing, lists);
     let fault = judged.fault;
     match fault {
         Fault::Refused(f) => Pinned::Refused(f),
@@ -98,21 +109,43 @@ fn unpin_in(s: &mut [i32]) -> Pinned
     Pinned::Done
 }
 
-// The plan of a session: what `solver::solve` gives, over the answer sets that agree with the pins held. It writes nothing to the session.
+// The plan of a session: what `solver::solve` gives, over the answer sets that agree with the pins held. It writes nothing to the session. The memory of the
+// search is lent, as that of `solver::solve_with`.
+pub fn plan_with(
+    session: &Session,
+    limit: u32,
+    plan: &mut [u8],
+    lists: &mut Lists,
+    candidates: &mut Candidates,
+) -> Solution
+    ensures { λ r. ⌜ Plans (now (session .entry)) limit (now (plan .entry)) (now (plan .exit)) r ⌝ }
+{
+    plan_in(session, limit, plan, lists, candidates)
+}
+
+// The same with memory of its own.
 pub fn plan(session: &Session, limit: u32, plan: &mut [u8]) -> Solution
     ensures { λ r. ⌜ Plans (now (session .entry)) limit (now (plan .entry)) (now (plan .exit)) r ⌝ }
 {
-    plan_in(session, limit, plan)
+    let mut lists = [0u16; heads::SIZE];
+    let mut candidates = [0u32; Table::RULES];
+    plan_with(session, limit, plan, &mut lists, &mut candidates)
 }
 
-fn plan_in(s: &[i32], limit: u32, plan: &mut [u8]) -> Solution
+fn plan_in(
+    s: &[i32],
+    limit: u32,
+    plan: &mut [u8],
+    lists: &mut Lists,
+    candidates: &mut Candidates,
+) -> Solution
     requires { ⌜ length (now s) ≡ 16450 ⌝ }
     ensures { λ r. ⌜ Plans (now (s .entry)) limit (now (plan .entry)) (now (plan .exit)) r ⌝ }
 {
     let count = memory::number(s, memory::COUNT, Table::WORDS);
     let words = &s[..count];
     let room = plan.len();
-    let judged = judging::judge(words, Buffer::Plan(room));
+    let judged = judging::judge_by(words, Buffer::Plan(room), lists);
     let fault = judged.fault;
     match fault {
         Fault::Refused(f) => {
@@ -122,7 +155,7 @@ fn plan_in(s: &[i32], limit: u32, plan: &mut [u8]) -> Solution
         }
         Fault::Nothing => {
             let tb = judged.table;
-            let found = setting::search(words, tb, s, limit);
+            let found = setting::search(words, tb, lists, s, limit, candidates);
             let atoms = tb.atoms;
             let solved = solver::plans::report(found, atoms, plan);
             let whys = solver::whys_for(words, tb, solved, plan);

@@ -5,6 +5,7 @@ ghost use mathlib.Core.Bool.{Bool};
 ghost use Prim.Native.Nat.{_≤_, _<_};
 ghost use lib.ListN.{length};
 ghost use Rattle.layout.specs.Layout.{Laid, programOf};
+ghost use Rattle.heads.specs.Heads.{Listed};
 ghost use Rattle.interpretation.specs.State.{setAt};
 ghost use Rattle.interpretation.specs.View.{view, valued};
 ghost use Rattle.search.specs.Base.{pinned};
@@ -13,6 +14,8 @@ ghost use Rattle.jumping.specs.Jumping.{Solves};
 ghost use Rattle.pins.specs.Memory.{pinsIn, takenOf};
 ghost use Rattle.pins.specs.Setting.{isFree, setPin, startWith};
 use crate::memory;
+use foundation::Candidates;
+use heads::Lists;
 use interpretation::Interpretation;
 use interpretation::Value;
 use layout::Table;
@@ -75,12 +78,17 @@ fn start(s: &[i32], n: usize) -> Interpretation
 }
 
 // The search over an accepted table with the pins of a session.
-pub fn search(t: &[i32], tb: Table, s: &[i32], limit: u32) -> Found
-    requires { ⌜ Laid (now t) tb × (length (now s) ≡ 16450) ⌝ }
+pub fn search(
+    t: &[i32],
+    tb: Table,
+    lists: &Lists,
+    s: &[i32],
+    limit: u32,
+    candidates: &mut Candidates,
+) -> Found
+    requires { ⌜ Laid (now t) tb × Listed (now t) tb (now lists) × (length (now s) ≡ 16450) ⌝ }
     ensures { λ r. ⌜ Solves (pinned (programOf (now (t .entry)) tb) (tb .atoms) (pinsOf (takenOf (tb .atoms) (pinsIn (now (s .entry)))))) limit r ⌝ }
 {
-    let mut lists = [0u16; heads::SIZE];
-    heads::fill(t, tb, &mut lists);
     let n = tb.atoms;
     let it = start(s, n);
     let from = Start {
@@ -90,6 +98,6 @@ pub fn search(t: &[i32], tb: Table, s: &[i32], limit: u32) -> Found
         passes: 0,
     };
     let reasons = levels::no_rows();
-    let halt = jumping::search_by(t, tb, &lists, limit, from, reasons);
+    let halt = jumping::search_by(t, tb, lists, limit, from, reasons, candidates);
     halt.found
 }

@@ -14,8 +14,8 @@ use Rattle.pins.proofs.Changes.{opening-refused, opening-accepted}
 use Rattle.pins.proofs.open_in.Statement.{statement}
 use Rattle.pins.proofs.open_in.Tie as tie
 
-judge-requires : tie.Need-judge-requires
-judge-requires c κs = search needs
+judge-by-requires : tie.Need-judge-by-requires
+judge-by-requires c κs = search needs
 
 enum-known-fault : tie.Need-enum-known-fault
 enum-known-fault c = search needs
@@ -24,21 +24,21 @@ enum-told : tie.Need-enum-told
 enum-told c = search needs
 
 -- what was accepted
-taken : (c : tie.After-enum-told) → let j = c .before .before in let a = j .before .args in
-    (d : Contents) × Accepted (a .words .now) lent.Nothing d × Placed (a .words .now) (j .judge .result .table) d
+taken : (c : tie.After-enum-told) → let j = c .before .before in let a = j .before .before .args in
+    (d : Contents) × Accepted (a .words .now) lent.Nothing d × Placed (a .words .now) (j .judge-by .result .table) d
 taken c =
     let j = c .before .before in
-    judged-taken (j .before .args .words .now) lent.Nothing (j .judge .result) (j .judge .ensures) (c .enum-told .given .1)
+    judged-taken (j .before .before .args .words .now) lent.Nothing (j .judge-by .result) (j .judge-by .ensures .0) (c .enum-told .given .1)
 
 fill-requires : tie.Need-fill-requires
-fill-requires c κs = (taken (c .before) .1 .words, c .before .before .before .before .pre)
+fill-requires c κs = (taken (c .before) .1 .words, c .before .before .before .before .before .pre)
 
 returns : tie.Need-returns
 returns c =
     let f = c .before .fault .given in
     let j = c .before .before .before in
-    let a = j .before .args in
-    opening-refused (a .words .now) (a .s .now) (f .0 .0) (judged-refused (a .words .now) lent.Nothing (j .judge .result) (f .0 .0) (j .judge .ensures) (f .1))
+    let a = j .before .before .args in
+    opening-refused (a .words .now) (a .s .now) (f .0 .0) (judged-refused (a .words .now) lent.Nothing (j .judge-by .result) (f .0 .0) (j .judge-by .ensures .0) (f .1))
 
 same-length : tie.Need-same-length
 same-length c = search needs
@@ -46,10 +46,10 @@ same-length c = search needs
 returns-2 : tie.Need-returns-2
 returns-2 c =
     let e = c .before .before .before in
-    let st = e .before .before .before in
+    let st = e .before .before .before .before in
     let a = st .args in
     let x = taken e in
     subst (λ (u : List ℤ). Opening (a .words .now) (a .s .now) u changed.Done) (sym (c .before .fill .ensures)) (opening-accepted (a .words .now) (a .s .now) (st .pre) (x .0) (x .1))
 
 pub open-in-spec : {M : Type 1} → statement M
-open-in-spec = tie.close (tie.spec judge-requires enum-known-fault enum-told fill-requires returns same-length returns-2)
+open-in-spec = tie.close (tie.spec judge-by-requires enum-known-fault enum-told fill-requires returns same-length returns-2)

@@ -43,8 +43,8 @@ slice-aggregate-words c =
     let l = st .pre in
     sym (length-take-le (n .number .result) (st .args .s .now) (omega arith))
 
-judge-requires : tie.Need-judge-requires
-judge-requires c κs = search needs
+judge-by-requires : tie.Need-judge-by-requires
+judge-by-requires c κs = search needs
 
 enum-known-fault : tie.Need-enum-known-fault
 enum-known-fault c = search needs
@@ -56,24 +56,27 @@ enum-told : tie.Need-enum-told
 enum-told c = search needs
 
 -- the words that are judged are the session's
-judged : (j : tie.After-judge) → let n = j .before .before in let a = n .before .before .args in take (n .number .result) (a .s .now) ≡ tableIn (a .s .now)
-judged j = let n = j .before .before in let a = n .before .before .args in ap (λ (k : ℕ). take k (a .s .now)) (n .number .ensures)
+judged : (j : tie.After-judge-by) → let n = j .before .before .before in let a = n .before .before .args in take (n .number .result) (a .s .now) ≡ tableIn (a .s .now)
+judged j = let n = j .before .before .before in let a = n .before .before .args in ap (λ (k : ℕ). take k (a .s .now)) (n .number .ensures)
 
 -- what was accepted
-taken : (c : tie.After-tb) → let j = c .before .before .before in let n = j .before .before in let a = n .before .before .args in
-    (d : Contents) × Accepted (take (n .number .result) (a .s .now)) (Plan (length (a .plan .now))) d × Placed (take (n .number .result) (a .s .now)) (j .judge .result .table) d
+taken : (c : tie.After-tb) → let j = c .before .before .before in let n = j .before .before .before in let a = n .before .before .args in
+    (d : Contents) × Accepted (take (n .number .result) (a .s .now)) (Plan (length (a .plan .now))) d × Placed (take (n .number .result) (a .s .now)) (j .judge-by .result .table) d
 taken c =
     let j = c .before .before .before in
-    let n = j .before .before in
+    let n = j .before .before .before in
     let a = n .before .before .args in
-    judged-taken (take (n .number .result) (a .s .now)) (Plan (length (a .plan .now))) (j .judge .result) (j .judge .ensures) (c .before .enum-told .given .1)
+    judged-taken (take (n .number .result) (a .s .now)) (Plan (length (a .plan .now))) (j .judge-by .result) (j .judge-by .ensures .0) (c .before .enum-told .given .1)
 
 search-requires : tie.Need-search-requires
-search-requires c κs = (taken c .2 .laid, c .before .before .before .before .before .before .before .pre)
+search-requires c κs =
+    let x = c .before .before in
+    let j = x .before .before .before in
+    (taken x .2 .laid, j .judge-by .ensures .1 (x .before .enum-told .given .1), j .before .before .before .before .before .pre)
 
 report-requires : tie.Need-report-requires
 report-requires c κs =
-    let x = taken (c .before .before) in
+    let x = taken (c .before .before .before .before) in
     let f = x .2 .laid .fewAtoms in
     let w = plan-wide _ (x .1 .buffer) in
     (f, omega arith)
@@ -81,10 +84,10 @@ report-requires c κs =
 whys-for-requires : tie.Need-whys-for-requires
 whys-for-requires c κs =
     let r = c .before .before .before in
-    let b = r .before .before .before in
+    let b = r .before .before .before .before .before in
     let j = b .before .before .before in
-    let old = j .before .before .before .before .args .plan .now in
-    let tb = j .judge .result .table in
+    let old = j .before .before .before .before .before .args .plan .now in
+    let tb = j .judge-by .result .table in
     let x = taken b in
     let f = x .2 .laid .fewAtoms in
     let w = plan-wide _ (x .1 .buffer) in
@@ -96,11 +99,11 @@ returns : tie.Need-returns
 returns c =
     let f = c .before .before .fault .given in
     let j = c .before .before .before .before in
-    let n = j .before .before in
+    let n = j .before .before .before in
     let a = n .before .before .args in
     let b = Plan (length (a .plan .now)) in
     let h = subst (λ (t : List ℤ). Refused t b (numberOf (f .0 .0)) (placeOf (f .0 .0))) (judged j)
-    (judged-refused (take (n .number .result) (a .s .now)) b (j .judge .result) (f .0 .0) (j .judge .ensures) (f .1)) in (
+    (judged-refused (take (n .number .result) (a .s .now)) b (j .judge-by .result) (f .0 .0) (j .judge-by .ensures .0) (f .1)) in (
       planning-refused (tableIn (a .s .now)) (pinsIn (a .s .now)) (a .limit) (a .plan .now) (f .0 .0) h,
       explaining-refused (tableIn (a .s .now)) b (a .plan .now) (f .0 .0) (c .nothing .result) (c .nothing .ensures),
     )
@@ -112,11 +115,11 @@ returns-2 : tie.Need-returns-2
 returns-2 c =
     let r = c .before .before .before .before in
     let s = r .before .before in
-    let b = s .before in
+    let b = s .before .before .before in
     let j = b .before .before .before in
-    let n = j .before .before in
+    let n = j .before .before .before in
     let a = n .before .before .args in
-    let tb = j .judge .result .table in
+    let tb = j .judge-by .result .table in
     let t = take (n .number .result) (a .s .now) in
     let pins = pinsIn (a .s .now) in
     let x = taken b in
@@ -144,7 +147,7 @@ plan-in-spec =
     (tie.spec
     number-requires
     slice-aggregate-words
-    judge-requires
+    judge-by-requires
     enum-known-fault
     nothing-requires
     enum-told

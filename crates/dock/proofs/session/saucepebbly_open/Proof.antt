@@ -1,4 +1,4 @@
--- `dock::session::saucepebbly_open` meets its contract: the promise of `pins::open`, with the result's kind and numbers. Assumes nothing.
+-- `dock::session::saucepebbly_open` meets its contract: the promise of `pins::open_with`, with the result's kind and numbers. Assumes nothing.
 use borrow.Author.Needs.{needs}
 use mathlib.Core.Path.{_≡_, sym, ap, _∙_}
 use Prim.Native.Nat.{ℕ}
@@ -7,8 +7,8 @@ use Rattle.dock.specs.Session.{changedFirst}
 use Rattle.dock.proofs.session.saucepebbly_open.Statement.{statement}
 use Rattle.dock.proofs.session.saucepebbly_open.Tie as tie
 
-open-requires : tie.Need-open-requires
-open-requires c κs = search needs
+open-with-requires : tie.Need-open-with-requires
+open-with-requires c κs = search needs
 
 changed-first-requires : tie.Need-changed-first-requires
 changed-first-requires c κs = search needs
@@ -31,14 +31,14 @@ returns c =
     let s = w .before in
     let f = s .before in
     let r = f .before .before in
-    let q = r .«open» .result in
-    let old = r .before .before .before .args .report .now in
+    let q = r .open-with .result in
+    let old = r .before .before .before .before .args .report .now in
     record {
       result = q;
-      opening = r .«open» .ensures;
+      opening = r .open-with .ensures;
       kind = c .changed-kind .ensures;
       report = w .write .ensures ∙ ap (λ (m : ℕ). reported m (s .changed-second .result) old) (f .changed-first .ensures) ∙ ap (λ (n : ℕ). reported (changedFirst q) n old) (s .changed-second .ensures);
     }
 
 pub saucepebbly-open-spec : {M : Type 1} → statement M
-saucepebbly-open-spec = tie.close (tie.spec open-requires changed-first-requires changed-second-requires write-requires changed-kind-requires same-length returns)
+saucepebbly-open-spec = tie.close (tie.spec open-with-requires changed-first-requires changed-second-requires write-requires changed-kind-requires same-length returns)

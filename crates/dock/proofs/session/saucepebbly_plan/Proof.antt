@@ -1,4 +1,4 @@
--- `dock::session::saucepebbly_plan` meets its contract: the promise of `pins::plan`, with the result's kind and numbers, and the rounds and rules. Assumes nothing.
+-- `dock::session::saucepebbly_plan` meets its contract: the promise of `pins::plan_with`, with the result's kind and numbers, and the rounds and rules. Assumes nothing.
 use borrow.Author.Needs.{needs}
 use mathlib.Core.Path.{_≡_, sym, ap, _∙_}
 use Prim.Native.Nat.{ℕ}
@@ -6,8 +6,8 @@ use Rattle.dock.specs.Dock.{firstOf, secondOf, thirdOf, reported, withTh
 use Rattle.dock.proofs.session.saucepebbly_plan.Statement.{statement}
 use Rattle.dock.proofs.session.saucepebbly_plan.Tie as tie
 
-plan-requires : tie.Need-plan-requires
-plan-requires c κs = search needs
+plan-with-requires : tie.Need-plan-with-requires
+plan-with-requires c κs = search needs
 
 write-requires : tie.Need-write-requires
 write-requires c κs = search needs
@@ -48,11 +48,11 @@ returns c =
     let f = s .before in
     let y = f .before .before .before .before in
     let r = y .before .before .before .before .before in
-    let q = r .plan .result .solved in
-    let old = r .before .before .before .before .before .args .report .now in
+    let q = r .plan-with .result .solved in
+    let old = r .before .before .before .before .before .before .before .args .report .now in
     record {
-      result = r .plan .result;
-      plans = r .plan .ensures;
+      result = r .plan-with .result;
+      plans = r .plan-with .ensures;
       kind = c .kind .ensures;
       report = x .write-third .ensures
           ∙ ap (withThird (h .third .result))
@@ -65,7 +65,7 @@ pub saucepebbly-plan-spec : {M : Type 1} → statement M
 saucepebbly-plan-spec =
     tie.close
     (tie.spec
-    plan-requires
+    plan-with-requires
     write-requires
     first-requires
     second-requires

@@ -21,12 +21,6 @@ use Rattle.pins.proofs.Starting.{ordered-pins, searched-pinned}
 use Rattle.pins.proofs.setting.search.Statement.{statement}
 use Rattle.pins.proofs.setting.search.Tie as tie
 
-slice-aggregate-fill : tie.Need-slice-aggregate-fill
-slice-aggregate-fill c = search needs
-
-fill-requires : tie.Need-fill-requires
-fill-requires c κs = search needs
-
 start-requires : tie.Need-start-requires
 start-requires c κs = search needs
 
@@ -36,19 +30,19 @@ no-rows-requires c κs = search needs
 search-by-requires : tie.Need-search-by-requires
 search-by-requires c κs =
     let i = c .before .before in
-    let s = i .before .before .before .before in
+    let s = i .before in
     let n = s .args .tb .atoms in
     let e = i .start .ensures in
     let d : i .start .result .depth ≡ 0 = ap (λ (x : Interpretation). x .level) e in
     let o = subst (Ordered n) (sym e) (ordered-pins n (takenOf n (pinsIn (s .args .s .now))) (held-good n (settings (pinsIn (s .args .s .now))))) in
-    (s .pre .0, i .before .before .fill .ensures, record { ordered = o; paid = omega (arith, d); few = omega arith })
+    (s .pre .0, s .pre .1, record { ordered = o; paid = omega (arith, d); few = omega arith })
 
 returns : tie.Need-returns
 returns c =
     let r = c .before .search-by in
     let n = c .before .before .before in
     let i = n .before in
-    let a = i .before .before .before .before .args in
+    let a = i .before .args in
     let pins = takenOf (a .tb .atoms) (pinsIn (a .s .now)) in
     let P = pinned (programOf (a .t .now) (a .tb)) (a .tb .atoms) (pinsOf pins) in
     let cell : view (i .start .result) .cell ≡ start P .interpretation .cell = ap (λ (x : Interpretation). x .cell) (i .start .ensures) ∙ start-cells pins in
@@ -63,4 +57,4 @@ returns c =
     solves-by P (a .limit) _ (r .result) f (searched-pinned (programOf (a .t .now) (a .tb)) (a .tb .atoms) (pinsOf pins) (a .limit) _ (r .result) (r .ensures []))
 
 pub search-spec : {M : Type 1} → statement M
-search-spec = tie.close (tie.spec slice-aggregate-fill fill-requires start-requires no-rows-requires search-by-requires returns)
+search-spec = tie.close (tie.spec start-requires no-rows-requires search-by-requires returns)
