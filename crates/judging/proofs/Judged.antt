@@ -1,15 +1,15 @@
 -- Every table is refused or accepted, and the judge says which. Assumes nothing.
 use mathlib.Core.Path.{_≡_, refl, sym, _∙_, ap, subst}
-use mathlib.Core.Logic.{_⊎_, inl, inr}
+use mathlib.Core.Logic.{_≢_, _⊎_, inl, inr}
 use mathlib.Core.Option.{Option, none, some}
 use mathlib.Core.List.{List}
-use Prim.Native.Nat.{ℕ, _≤_, _<_}
+use Prim.Native.Nat.{ℕ, _≤_, _<_, _%_}
 use native.Mathlib.Omega.{arith}
 use lib.IntN.{ℤ}
 use lib.ListN.{length}
 use Rattle.meaning.specs.Program.{Program, AtomsIn}
-use Rattle.meaning.proofs.Cond.{ltCase, ifLt-yes, ifLt-no}
-use Rattle.meaning.specs.Cond.{ifLt}
+use Rattle.meaning.proofs.Cond.{ltCase, eqCase, ifLt-yes, ifLt-no, ifEq-yes, ifEq-no}
+use Rattle.meaning.specs.Cond.{ifLt, ifEq}
 use Rattle.results.specs.declared.Refusal.{Refusal}
 use Rattle.results.specs.declared.Refusal.the-variants as refusal
 use Rattle.results.specs.Results.{numberOf, placeOf}
@@ -70,6 +70,17 @@ plan-wide room e = at (ltCase room 256)
 pub plan-good : (room : ℕ) → 256 ≤ room → earns (lent.Plan room) ≡ none
 plan-good room l = ifLt-no room 256 (some 10) none l
 
+-- a buffer for rows that earns nothing has whole rows
+pub rows-whole : (room : ℕ) → earns (lent.Rows room) ≡ none → room % 256 ≡ 0
+rows-whole room e = at (eqCase (room % 256) 0)
+  where
+    at : (room % 256 ≡ 0) ⊎ (room % 256 ≢ 0) → room % 256 ≡ 0
+    at (inl h) = h
+    at (inr h) = absurd (bad (ifEq-no (room % 256) 0 none (some 17) h) e)
+
+pub rows-good : (room : ℕ) → room % 256 ≡ 0 → earns (lent.Rows room) ≡ none
+rows-good room h = ifEq-yes (room % 256) 0 none (some 17) h
+
 -- the refusal that is found is the one that is earned
 pub fault-good : (b : Buffer) → faultOf b ≡ fault.Nothing → earns b ≡ none
 fault-good lent.Nothing e = refl
@@ -78,6 +89,11 @@ fault-good (lent.Plan room) e = at (ltCase room 256)
     at : (room < 256) ⊎ (256 ≤ room) → earns (lent.Plan room) ≡ none
     at (inl l) = absurd (no-fault (ifLt-yes room 256 _ _ l) e)
     at (inr l) = plan-good room l
+fault-good (lent.Rows room) e = at (eqCase (room % 256) 0)
+  where
+    at : (room % 256 ≡ 0) ⊎ (room % 256 ≢ 0) → earns (lent.Rows room) ≡ none
+    at (inl h) = rows-good room h
+    at (inr h) = absurd (no-fault (ifEq-no (room % 256) 0 _ _ h) e)
 
 pub fault-bad : (b : Buffer) (f : Refusal) → faultOf b ≡ fault.Refused f → (earns b ≡ some (numberOf f)) × (placeOf f ≡ 0)
 fault-bad lent.Nothing f e = absurd (no-fault e refl)
@@ -88,6 +104,13 @@ fault-bad (lent.Plan room) f e = at (ltCase room 256)
         let i = same-fault (ifLt-yes room 256 _ _ l) e in
         (ifLt-yes room 256 (some 10) none l ∙ ap (λ (g : Refusal). some (numberOf g)) i, sym (ap placeOf i))
     at (inr l) = absurd (no-fault e (ifLt-no room 256 _ _ l))
+fault-bad (lent.Rows room) f e = at (eqCase (room % 256) 0)
+  where
+    at : (room % 256 ≡ 0) ⊎ (room % 256 ≢ 0) → (earns (lent.Rows room) ≡ some (numberOf f)) × (placeOf f ≡ 0)
+    at (inl h) = absurd (no-fault e (ifEq-yes (room % 256) 0 _ _ h))
+    at (inr h) =
+        let i = same-fault (ifEq-no (room % 256) 0 _ _ h) e in
+        (ifEq-no (room % 256) 0 none (some 17) h ∙ ap (λ (g : Refusal). some (numberOf g)) i, sym (ap placeOf i))
 
 -- ---- the words
 

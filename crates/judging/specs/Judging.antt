@@ -8,10 +8,10 @@
 use mathlib.Core.Path.{_≡_}
 use mathlib.Core.Option.{Option, none}
 use mathlib.Core.List.{List}
-use Prim.Native.Nat.{ℕ, _≤_}
+use Prim.Native.Nat.{ℕ, _≤_, _%_}
 use lib.IntN.{ℤ}
 use lib.ListN.{length, replicate}
-use Rattle.meaning.specs.Cond.{ifLt}
+use Rattle.meaning.specs.Cond.{ifLt, ifEq}
 use Rattle.results.specs.declared.Refusal.{Refusal}
 use Rattle.results.specs.declared.Refusal.the-variants as refusal
 use Rattle.results.specs.Results.{numberOf, placeOf}
@@ -41,6 +41,7 @@ takenReading c = record { table = tableOf c; fault = fault.Nothing }
 abbrev pub faultOf : Buffer → Fault
 faultOf lent.Nothing = fault.Nothing
 faultOf (lent.Plan room) = ifLt room 256 (fault.Refused refusal.ShortPlan) fault.Nothing
+faultOf (lent.Rows room) = ifEq (room % 256) 0 fault.Nothing (fault.Refused refusal.PartRow)
 
 pub data Judged (t : List ℤ) (b : Buffer) (r : Reading) : Type 0 where
   refused : (f : Refusal) → Refused t b (numberOf f) (placeOf f) → r ≡ refusedReading f → Judged t b r

@@ -1,6 +1,7 @@
 -- Which table is refused, and with which number and place (01, "What comes back"): "Order: .. 1, 10; then the first faulty word from the left ..; then 3, 8, 9".
 -- Definitions only: to be believed.
---   earns b              the number that the entry's own buffer b earns, if it is bad: "plan buffer shorter than 256 bytes" is 10
+--   earns b              the number that the entry's own buffer b earns, if it is bad: "plan buffer shorter than 256 bytes" is 10; of rows "the buffer's length
+--                        isn't a multiple of 256" is 17, "in the place of 10"
 --   Accepted t b c       the words t, with the buffer b, are accepted, and c is what they hold
 --   Refused t b n i      they are refused with number n and place i: a row of 01's table, under its condition and in 01's order
 -- What the words hold, and the refusals 2 to 7 and 3, are `contentsOf` of crate `table`, with number and place by `numberOf` and `placeOf` of crate `results`; the
@@ -9,10 +10,10 @@
 use mathlib.Core.Path.{_≡_}
 use mathlib.Core.Option.{Option, none, some}
 use mathlib.Core.List.{List}
-use Prim.Native.Nat.{ℕ, _≤_, _<_}
+use Prim.Native.Nat.{ℕ, _≤_, _<_, _%_}
 use lib.IntN.{ℤ}
 use lib.ListN.{length}
-use Rattle.meaning.specs.Cond.{ifLt}
+use Rattle.meaning.specs.Cond.{ifLt, ifEq}
 use Rattle.meaning.specs.Dependency.{HeadCycle, AggregateCycle, Free}
 use Rattle.results.specs.declared.Refusal.{Refusal}
 use Rattle.results.specs.Results.{numberOf, placeOf}
@@ -27,6 +28,8 @@ abbrev pub earns : Buffer → Option ℕ
 earns lent.Nothing = none
 -- 10: "plan buffer shorter than 256 bytes"
 earns (lent.Plan room) = ifLt room 256 (some 10) none
+-- 17 (request 7): "the buffer's length isn't a multiple of 256, in the place of 10 for this entry"
+earns (lent.Rows room) = ifEq (room % 256) 0 none (some 17)
 
 pub record Accepted (t : List ℤ) (b : Buffer) (c : Contents) : Type 0 where
   pub words : length t ≤ 16384

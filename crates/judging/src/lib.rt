@@ -19,9 +19,11 @@ pub enum Buffer {
     Nothing,
     // A plan buffer of so many bytes.
     Plan(usize),
+    // A buffer of so many bytes for rows of plans.
+    Rows(usize),
 }
 
-// "plan buffer shorter than 256 bytes"
+// "plan buffer shorter than 256 bytes"; "256-byte rows"
 pub const ROOM: usize = 256;
 
 // The refusal that an entry's own buffer earns in the place of 10.
@@ -33,6 +35,12 @@ fn earned(buffer: Buffer) -> Fault
         Buffer::Plan(room) => {
             if room < ROOM {
                 return Fault::Refused(Refusal::ShortPlan);
+            }
+            Fault::Nothing
+        }
+        Buffer::Rows(room) => {
+            if 0 < room % ROOM {
+                return Fault::Refused(Refusal::PartRow);
             }
             Fault::Nothing
         }

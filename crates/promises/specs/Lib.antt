@@ -1,3 +1,4 @@
--- What an entry that searches promises: both are to be believed.
+-- What an entry that searches promises: all are to be believed.
 pub mod Plans
 pub mod Promises
+pub mod Listings

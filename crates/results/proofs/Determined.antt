@@ -1,7 +1,7 @@
 -- A refusal is determined by its number and place, and a result by what it says: so a promise that names these fixes the result. Assumes nothing.
 --   refusal-determined                    of a refusal
---   report-refusal, check-refusal         what says that it is refused with a number and a place is that refusal
---   report-determines, check-determines   of a result of solving, and of the check;  pinned-determines: of a call that changes a session
+--   report-refusal, check-refusal, list-refusal   what says that it is refused with a number and a place is that refusal
+--   report-determines, check-determines   of a result of solving, and of the check;  refusal-determines: of a refused listing;  pinned-determines: of a call that changes a session
 --   number-unique, place-unique           the promises of `number` and `place` have one answer each
 use mathlib.Core.Path.{_≡_, refl, sym, _∙_, ap}
 use mathlib.Core.List.{List, [], _∷_}
@@ -14,9 +14,11 @@ use Rattle.results.specs.declared.Solved.{Solved}
 use Rattle.results.specs.declared.Solved.the-variants as solved
 use Rattle.results.specs.declared.Checked.{Checked}
 use Rattle.results.specs.declared.Checked.the-variants as checked
+use Rattle.results.specs.declared.Listed.{Listed}
+use Rattle.results.specs.declared.Listed.the-variants as listed
+use Rattle.results.specs.Results.{numberOf, placeOf, Report, reportOf, refusalReport, CheckReport, checkReportOf, refusalCheck, ListReport, listReportOf, refusalListing, pinnedReportOf}
 use Rattle.results.specs.declared.Pinned.{Pinned}
 use Rattle.results.specs.declared.Pinned.the-variants as changed
-use Rattle.results.specs.Results.{numberOf, placeOf, Report, reportOf, refusalReport, CheckReport, checkReportOf, refusalCheck, pinnedReportOf}
 
 -- the refusal with a number and a place; 0, 18 and 19 are no refusal's number
 abbrev refusalAt : ℕ → ℕ → Refusal
@@ -131,6 +133,23 @@ check-determines checked.No (checked.Refused f) e = absurd (let z = checks e in 
 check-determines (checked.Refused f) s e =
     let w = check-refusal s (numberOf f) (placeOf f) (sym e) in
     ap checked.Refused (refusal-determined f (w .0) (sym (w .2)) (sym (w .3))) ∙ sym (w .1)
+
+-- ---- results of a listing
+
+list-kinds : {x y : ListReport} → x ≡ y → x .kind ≡ y .kind
+list-kinds e = ap (λ (r : ListReport). r .kind) e
+
+pub list-refusal : (r : Listed) (n i : ℕ) → listReportOf r ≡ refusalListing n i → (f : Refusal) × (r ≡ listed.Refused f) × (numberOf f ≡ n) × (placeOf f ≡ i)
+list-refusal (listed.Complete m k) n i e = absurd (let z = list-kinds e in omega arith)
+list-refusal (listed.Full m k) n i e = absurd (let z = list-kinds e in omega arith)
+list-refusal (listed.Limit m k) n i e = absurd (let z = list-kinds e in omega arith)
+list-refusal (listed.Refused f) n i e = (f, refl, ap (λ (r : ListReport). r .number) e, ap (λ (r : ListReport). r .place) e)
+
+pub refusal-determines : (r s : Listed) (n i : ℕ) → listReportOf r ≡ refusalListing n i → listReportOf s ≡ refusalListing n i → r ≡ s
+refusal-determines r s n i e h =
+    let x = list-refusal r n i e in
+    let y = list-refusal s n i h in
+    x .1 ∙ ap listed.Refused (refusal-determined (x .0) (y .0) (x .2 ∙ sym (y .2)) (x .3 ∙ sym (y .3))) ∙ sym (y .1)
 
 -- ---- results of a call that changes a session
 

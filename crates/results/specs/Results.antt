@@ -3,8 +3,9 @@
 --   numberOf, placeOf    01's table "What comes back": the columns No. and Place; from 14 on the refusals that 02 adds ("place 0 unless it names another")
 --   reportOf             what each result of solving says; refusalReport n i: "for a refusal its number and place with counts 0"
 --   checkReportOf        what each result of the check says; refusalCheck n i: "refused with number and place"
+--   listReportOf         what each result of a listing says (request 7); refusalListing n i: a refusal's number and place, with nothing listed and counts 0
 --   pinnedReportOf       what each result of a call that changes a session says (02, request 10); told as that of the check
---   kindOf, countsOf, checkKind, pinnedKind   parts of these
+--   kindOf, countsOf, checkKind, listKind, listedOf, listCounts, pinnedKind   parts of these
 -- Assumes nothing.
 use Prim.Native.Nat.{ℕ}
 use Rattle.results.specs.declared.Refusal.{Refusal}
@@ -14,6 +15,8 @@ use Rattle.results.specs.declared.Solved.{Solved}
 use Rattle.results.specs.declared.Solved.the-variants as solved
 use Rattle.results.specs.declared.Checked.{Checked}
 use Rattle.results.specs.declared.Checked.the-variants as checked
+use Rattle.results.specs.declared.Listed.{Listed}
+use Rattle.results.specs.declared.Listed.the-variants as listed
 use Rattle.results.specs.declared.Pinned.{Pinned}
 use Rattle.results.specs.declared.Pinned.the-variants as changed
 
@@ -115,6 +118,35 @@ refusalCheck n i = record { kind = 3; number = n; place = i }
 
 abbrev pub checkKind : Checked → ℕ
 checkKind r = checkReportOf r .kind
+
+-- ---- what a listing says (request 7): "Ends are complete, full and limit", "with the number listed, choices and skips", and the passes
+
+-- the kind is 0 complete, 1 full, 2 limit, 3 refused
+pub record ListReport : Type 0 where
+  pub kind : ℕ
+  pub listed : ℕ
+  pub number : ℕ
+  pub place : ℕ
+  pub counts : Counts
+
+abbrev pub listReportOf : Listed → ListReport
+listReportOf (listed.Complete m k) = record { kind = 0; listed = m; number = 0; place = 0; counts = k }
+listReportOf (listed.Full m k) = record { kind = 1; listed = m; number = 0; place = 0; counts = k }
+listReportOf (listed.Limit m k) = record { kind = 2; listed = m; number = 0; place = 0; counts = k }
+listReportOf (listed.Refused f) = record { kind = 3; listed = 0; number = numberOf f; place = placeOf f; counts = noCounts }
+
+abbrev pub refusalListing : ℕ → ℕ → ListReport
+refusalListing n i = record { kind = 3; listed = 0; number = n; place = i; counts = noCounts }
+
+abbrev pub listKind : Listed → ℕ
+listKind r = listReportOf r .kind
+
+-- how many plans are listed
+abbrev pub listedOf : Listed → ℕ
+listedOf r = listReportOf r .listed
+
+abbrev pub listCounts : Listed → Counts
+listCounts r = listReportOf r .counts
 
 -- ---- what a call that changes a session says: done or refused with number and place
 

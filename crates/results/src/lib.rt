@@ -88,6 +88,15 @@ pub enum Written {
     Refused(Refusal),
 }
 
+// The result of listing every plan (request 7): how many are listed, with the counts: all there are, there is one more than rows, or the limit is
+// met; or a refusal, which writes nothing.
+pub enum Listed {
+    Complete(usize, Counts),
+    Full(usize, Counts),
+    Limit(usize, Counts),
+    Refused(Refusal),
+}
+
 // The result of a call that changes a session: it is done, or a refusal, which leaves the session as it stood.
 pub enum Pinned {
     Done,
