@@ -27,3 +27,6 @@ done
 echo "aspif: ok"
 target/examples/pins_c | diff - examples/expected_pins
 echo "pins_c: ok"
+cc -std=c11 -Wall -Wextra -Werror -O2 -I include examples/c/list.c target/staticlib/libdock.a -o target/examples/list_c
+target/examples/list_c | diff - examples/expected-list
+echo "list_c: ok"

@@ -50,6 +50,12 @@ enum {
     SAUCEPEBBLY_NO = 1   /* it is not */
 };
 
+/* What saucepebbly_list returns; or SAUCEPEBBLY_LIMIT or SAUCEPEBBLY_REFUSED. With the first three the report has: listed, choices, skips, passes. */
+enum {
+    SAUCEPEBBLY_COMPLETE = 0, /* every plan is listed */
+    SAUCEPEBBLY_FULL = 1      /* the rows are filled, and there is one plan more */
+};
+
 /* What saucepebbly_read_aspif and saucepebbly_write_aspif return; or SAUCEPEBBLY_REFUSED. */
 enum {
     SAUCEPEBBLY_WROTE = 0 /* the words, or the text, are written; report: how many words or bytes, 0 */
@@ -76,6 +82,7 @@ enum {
     SAUCEPEBBLY_OUTSIDE_SUBSET = 14,  /* aspif: a line outside the subset, or missing; its number, from 1 */
     SAUCEPEBBLY_BEYOND_RANGE = 15,    /* aspif: a number, list or table beyond the ranges; the line's number, from 1 */
     SAUCEPEBBLY_SHORT_BUFFER = 16,    /* the buffer is too short for the whole text; place 0 */
+    SAUCEPEBBLY_PART_ROW = 17,        /* list only: the rows' length is no multiple of 256; place 0 */
     SAUCEPEBBLY_PIN_NUMBER = 20,      /* pin: the atom is 0 or above the table's; place 0 */
     SAUCEPEBBLY_PIN_TWICE = 21,       /* pin: the atom is pinned already, the same way or the other; place 0 */
     SAUCEPEBBLY_PINS_FULL = 22,       /* pin: there are 64 pins; place 0 */
@@ -107,6 +114,15 @@ uint32_t saucepebbly_approve(const int32_t *words, size_t words_len, const uint8
  * meets its limit the result and the plan, are those of saucepebbly_solve; the report's skips are 0. */
 uint32_t saucepebbly_plain(const int32_t *words, size_t words_len, uint32_t limit, uint8_t *plan, size_t plan_len,
                            uint32_t *report, size_t report_len);
+
+/* Lists every plan, the first one first: rows of 256 bytes, one after the other, `rows_len` a multiple of 256 (it may be 0). Byte i - 1 of a row is 1
+ * if atom i is true and 0 if it is false; bytes above the table's atoms are 0. Rows past the number listed keep their content, and on a refusal all
+ * do. Complete: these are all plans. Full: the rows are filled and there is at least one plan more. Limit: with at most `limit` choices in all no more
+ * were found. In each case the rows hold the first plans, in order, each once. The report needs four places: how many plans are listed, choices,
+ * skips, passes; of a refusal number, place, 0, 0; if it has fewer, nothing is written to it. A number listed above 4,294,967,295 is reported as
+ * that. */
+uint32_t saucepebbly_list(const int32_t *words, size_t words_len, uint32_t limit, uint8_t *rows, size_t rows_len,
+                          uint32_t *report, size_t report_len, uint16_t *lists, uint32_t *candidates);
 
 /* Reads a text in the ASP intermediate format, which begins with the line `asp 1 0 0`: rule statements with a disjunctive head and a normal
  * body or a weight body of positive literals, comments, and the closing 0. The words go to the front of the buffer, which has at least

@@ -37,6 +37,10 @@ target/dock/pins sets <tools/dock/pins/sets | cmp - tools/dock/pins/sets.stdout
 echo "dock: $(wc -l <tools/dock/pins/sets.stdout) sets of up to three pins through C: as the enumerator has them"
 test "$(target/dock/pins wild)" = "wild: as it should be"
 echo "dock: calls on sessions that no open made: no harm"
+target/dock/runs lists <tools/dock/lists/stdin | cmp - tools/dock/lists/stdout
+echo "dock: $(($(wc -l <tools/dock/lists/stdout) / 2)) listings through C: as expected"
+target/dock/runs all <crates/run_tables/stdin | cmp - tools/dock/lists/all
+echo "dock: all plans of $(grep -c -v '^-' tools/dock/lists/all) tables through C: as expected"
 if command -v cc >/dev/null && command -v rustc >/dev/null; then
     sh examples/test.sh
 else

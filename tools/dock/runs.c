@@ -1,5 +1,5 @@
-/* Runs the gate's tables and texts over the compiled library: runs tables | runs texts | runs whys | runs passes. Input from standard input, a line for each case to standard
- * output, as the programs that the gate runs print them; of passes, as tools/passes.py tells. Needs no header of the C library, so that the kit's own compiler builds it. */
+/* Runs the gate's tables and texts over the compiled library: runs tables | runs texts | runs whys | runs passes | runs lists | runs all. Input from standard input, a line
+ * for each case to standard output, as the programs that the gate runs print them; of passes, as tools/passes.py tells, of lists and all, as tools/lists.py. Needs no header of the C library, so that the kit's own compiler builds it. */
 #define SAUCEPEBBLY_TYPES_GIVEN
 typedef unsigned long size_t;
 typedef int int32_t;
@@ -160,7 +160,48 @@ static void run_table(long count, long room) {
     put('\n');
 }
 
-static void run_tables(void) {
+/* ---- every plan, as tools/lists.py tells */
+
+static uint8_t rows[65536];
+
+/* The bytes of the rows that are listed and of the one after them, so far as there are so many. */
+static void put_rows(size_t length, size_t listed) {
+    unsigned long sum = 1;
+    for (size_t i = 0; i < length && i < 256 * (listed + 1); i++)
+        sum = mixed(sum, rows[i]);
+    put_text(" /");
+    put_number(sum);
+}
+
+/* A listing: the first so many of its numbers, and its rows. */
+static void list_table(const int32_t *table, size_t count, uint32_t limit, size_t length, int numbers) {
+    static const char *const names[] = {"complete", "full", "limit"};
+    uint32_t report[4] = {0, 0, 0, 0};
+    for (size_t i = 0; i < length; i++)
+        rows[i] = 7;
+    soil();
+    uint32_t kind = saucepebbly_list(table, count, limit, rows, length, report, 4, lists, candidates);
+    if (kind == SAUCEPEBBLY_REFUSED) {
+        put_refusal(report);
+        put_rows(length, 0);
+    } else {
+        put_text(names[kind]);
+        for (int i = 0; i < numbers; i++)
+            put_number(report[i]);
+        put_rows(length, report[0]);
+    }
+}
+
+/* All plans of a table of a few atoms. */
+static void list_all(const int32_t *table, size_t count) {
+    if (count > 0 && table[0] > 8)
+        put('-');
+    else
+        list_table(table, count, 4294967295u, sizeof rows, 1);
+    put('\n');
+}
+
+static void run_tables(int is_list) {
     long count, room, given, value;
     while (next_number(&count) && next_number(&room) && next_number(&given)) {
         for (long i = 0; i < count; i++) {
@@ -173,7 +214,10 @@ static void run_tables(void) {
             next_number(&value);
             plan[i] = (uint8_t)value;
         }
-        run_table(count, room);
+        if (is_list)
+            list_all(words, (size_t)count);
+        else
+            run_table(count, room);
     }
 }
 
@@ -256,7 +300,18 @@ static void run_text(size_t n, size_t places) {
     put('\n');
 }
 
-/* With the rounds and rules after each line, as crates/run_why has them, or without; with reports of so many places. */
+/* A listing as the vectors have it: before the table the length of the rows; then all plans of that table. */
+static void run_list(size_t n) {
+    uint32_t limit = 0, place = 0;
+    size_t count;
+    if (read_text(n, &limit, &count, &place) != 0 || count == 0)
+        return;
+    list_table(words + 1, count - 1, limit, (size_t)words[0], 3);
+    put('\n');
+    list_all(words + 1, count - 1);
+}
+
+/* With the rounds and rules after each line, as crates/run_why has them, or without; with reports of so many places, of a listing 4. */
 static void run_texts(int is_why, size_t places) {
     for (;;) {
         size_t n = 0;
@@ -271,7 +326,10 @@ static void run_texts(int is_why, size_t places) {
             if (i < sizeof bytes)
                 bytes[i] = (uint8_t)b;
         }
-        run_text(n, places);
+        if (places == 4)
+            run_list(n);
+        else
+            run_text(n, places);
         if (is_why)
             put_whys();
     }
@@ -282,10 +340,12 @@ int main(int argc, char **argv) {
         run_texts(1, 2);
     else if (argc == 2 && argv[1][0] == 'p')
         run_texts(0, 3);
+    else if (argc == 2 && argv[1][0] == 'l')
+        run_texts(0, 4);
     else if (argc == 2 && argv[1][0] == 't' && argv[1][1] == 'e')
         run_texts(0, 2);
     else
-        run_tables();
+        run_tables(argc == 2 && argv[1][0] == 'a');
     flush();
     return 0;
 }

@@ -7,3 +7,4 @@ pub mod PlainEntry
 pub mod ReadingEntry
 pub mod WritingEntry
 pub mod SessionEntries
+pub mod ListEntry

@@ -5,3 +5,4 @@ pub mod Plain
 pub mod Reading
 pub mod Writing
 pub mod Session
+pub mod List

@@ -10,6 +10,7 @@ use results::Ask;
 use results::Checked;
 use results::Solved;
 
+mod list;
 mod plainly;
 mod reading;
 mod session;

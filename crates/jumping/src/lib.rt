@@ -201,13 +201,7 @@ pub fn search_by(
 }
 
 // The search over an accepted table from its start, by the lists of its rules. What the candidates' array held before does not matter.
-pub fn search(
-    t: &[i32],
-    tb: Table,
-    lists: &Lists,
-    limit: u32,
-    candidates: &mut Candidates,
-) -> Found
+pub fn search(t: &[i32], tb: Table, lists: &Lists, limit: u32, candidates: &mut Candidates) -> Found
     requires { ⌜ Laid (now t) tb × Listed (now t) tb (now lists) ⌝ }
     ensures { λ r. ⌜ Solves (base (programOf (now (t .entry)) tb) (tb .atoms)) limit r ⌝ }
 {

@@ -2,12 +2,12 @@
 // caller. Meaning: `specs/Listing.antt`, and of the refusals crate `judging`; that the promise has one answer only: `proofs/Unique.antt`; that the
 // first row is what `solve` answers: `proofs/FirstRow.antt`.
 ghost use mathlib.Core.Path.{_≡_};
-ghost use Prim.Native.Nat.{_≤_};
-ghost use lib.ListN.{length};
-ghost use Rattle.heads.specs.Heads.{size};
 ghost use Rattle.lister.specs.Listing.{Listing};
 ghost use Rattle.lister.specs.Telling.{resultOf};
+use foundation::Candidates;
+use heads::Lists;
 use judging::Buffer;
+use layout::Table;
 use listing::Kind;
 use listing::Told;
 use results::Ask;
@@ -15,30 +15,37 @@ use results::Counts;
 use results::Listed;
 use table::Fault;
 
-// All plans: complete, full or limit with the number listed and the counts, or a refusal. Only the listed rows are written, each whole.
-pub fn list(words: &[i32], ask: Ask, rows: &mut [u8]) -> Listed
-    ensures { λ r. ⌜ Listing (now (words .entry)) ask (now (rows .entry)) (now (rows .exit)) r ⌝ }
-{
-    let mut lists = [0u16; heads::SIZE];
-    list_in(words, ask, rows, &mut lists)
-}
-
-// The same, with memory for the lists of the table's rules; what is in it before does not matter.
-fn list_in(words: &[i32], ask: Ask, rows: &mut [u8], lists: &mut heads::Lists) -> Listed
+// All plans: complete, full or limit with the number listed and the counts, or a refusal. Only the listed rows are written, each whole. The memory of the
+// search is lent: nothing is said of what it holds before or after, and nothing depends on it.
+pub fn list_with(
+    words: &[i32],
+    ask: Ask,
+    rows: &mut [u8],
+    lists: &mut Lists,
+    candidates: &mut Candidates,
+) -> Listed
     ensures { λ r. ⌜ Listing (now (words .entry)) ask (now (rows .entry)) (now (rows .exit)) r ⌝ }
 {
     let room = rows.len();
-    let judged = judging::judge(words, Buffer::Rows(room));
+    let judged = judging::judge_by(words, Buffer::Rows(room), lists);
     let fault = judged.fault;
     match fault {
         Fault::Refused(f) => Listed::Refused(f),
         Fault::Nothing => {
             let tb = judged.table;
-            heads::fill(words, tb, lists);
-            let told = listing::list_by(words, tb, lists, ask.limit, rows);
+            let told = listing::list_by(words, tb, lists, ask.limit, rows, candidates);
             result(told)
         }
     }
+}
+
+// The same with memory of its own.
+pub fn list(words: &[i32], ask: Ask, rows: &mut [u8]) -> Listed
+    ensures { λ r. ⌜ Listing (now (words .entry)) ask (now (rows .entry)) (now (rows .exit)) r ⌝ }
+{
+    let mut lists = [0u16; heads::SIZE];
+    let mut candidates = [0u32; Table::RULES];
+    list_with(words, ask, rows, &mut lists, &mut candidates)
 }
 
 // What a listing of an accepted table reports, as a result.

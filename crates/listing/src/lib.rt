@@ -3,8 +3,8 @@
 ghost use mathlib.Core.Path.{_≡_};
 ghost use Prim.Native.Nat.{_+_, _*_, _≤_, _<_, _/_};
 ghost use lib.ListN.{length};
-ghost use Rattle.interpretation.specs.State.{trueAtoms};
-ghost use Rattle.interpretation.specs.View.{valued, choices};
+ghost use Rattle.interpretation.specs.State.{unset, trueAtoms};
+ghost use Rattle.interpretation.specs.View.{view, valued, choices};
 ghost use Rattle.layout.specs.Layout.{Laid, programOf};
 ghost use Rattle.heads.specs.Heads.{Listed};
 ghost use Rattle.levels.specs.Levels.{upTo};
@@ -88,6 +88,31 @@ fn report(kind: Kind, number: usize, found: Found) -> Told
     }
 }
 
+// Where the listing begins: nothing is chosen or counted.
+fn begin() -> Start
+    ensures { λ r. ⌜ (view (r .it) ≡ unset) × (r .choices ≡ 0) × (r .skips ≡ 0) × (r .passes ≡ 0) ⌝ }
+{
+    let it = Interpretation::start();
+    Start {
+        it,
+        choices: 0,
+        skips: 0,
+        passes: 0,
+    }
+}
+
+// Where it goes on after a plan, with what was counted so far.
+fn again(found: Found, it: Interpretation) -> Start
+    ensures { λ r. ⌜ r ≡ record { it = it; choices = found .choices; skips = found .skips; passes = found .passes } ⌝ }
+{
+    Start {
+        it,
+        choices: found.choices,
+        skips: found.skips,
+        passes: found.passes,
+    }
+}
+
 // The listing, by the lists of the table's rules: search, write the plan's row, go back, and search on.
 pub fn list_by(
     t: &[i32],
@@ -102,13 +127,7 @@ pub fn list_by(
 {
     let room = rows.len() / ROW;
     let n = tb.atoms;
-    let it = Interpretation::start();
-    let mut from = Start {
-        it,
-        choices: 0,
-        skips: 0,
-        passes: 0,
-    };
+    let mut from = begin();
     let mut reasons = levels::no_rows();
     let mut number: usize = 0;
     loop {
@@ -137,12 +156,7 @@ pub fn list_by(
                         let rest = levels::without(why, m);
                         reasons[i] = rest;
                         let it = plan.jump(m as u16);
-                        from = Start {
-                            it,
-                            choices: found.choices,
-                            skips: found.skips,
-                            passes: found.passes,
-                        };
+                        from = again(found, it);
                     }
                 }
             }

@@ -61,8 +61,8 @@ n b = begun b .args .tb .atoms
 abbrev room : tie.At-loop Inv-loop μ-loop → ℕ
 room b = length (old b) / 256
 
-start-requires : tie.Need-start-requires Inv-loop μ-loop
-start-requires c κs = search needs
+begin-requires : tie.Need-begin-requires Inv-loop μ-loop
+begin-requires c κs = search needs
 
 no-rows-requires : tie.Need-no-rows-requires Inv-loop μ-loop
 no-rows-requires c κs = search needs
@@ -71,11 +71,16 @@ loop-holds : tie.Need-loop-holds Inv-loop μ-loop
 loop-holds c =
     let i = c .before in
     let a = i .before .before .args in
-    let e = i .start .ensures in
-    let d : i .start .result .depth ≡ 0 = ap (λ (x : Interpretation). x .level) e in
+    let s = i .begin .result in
+    let g = i .begin .ensures in
+    let e = g .0 in
+    let z = g .1 in
+    let y = g .2 in
+    let d : s .it .depth ≡ 0 = ap (λ (x : Interpretation). x .level) e in
     let Q = base (programOf (a .t .now) (a .tb)) (a .tb .atoms) in
-    let f : record { interpretation = view (i .start .result); reason = rows (c .no-rows .result); choices = 0; skips = 0; passes = 0; skipped = [] } ≡ start Q = λ j. record { interpretation = e j; reason = c .no-rows .ensures j; choices = 0; skips = 0; passes = 0; skipped = [] } in (
-      record { ordered = subst (Ordered (a .tb .atoms)) (sym e) (ordered-start (a .tb .atoms)); paid = omega (arith, d); few = omega arith },
+    let f : record { interpretation = view (s .it); reason = rows (c .no-rows .result); choices = s .choices; skips = s .skips; passes = s .passes; skipped = [] } ≡ start Q =
+    λ j. record { interpretation = e j; reason = c .no-rows .ensures j; choices = z j; skips = y j; passes = g .3 j; skipped = [] } in (
+      record { ordered = subst (Ordered (a .tb .atoms)) (sym e) (ordered-start (a .tb .atoms)); paid = omega (arith, d, z, y); few = omega (arith, z) },
       omega arith,
       refl,
       record { plans = []; past = []; skipped = []; count = refl; rows = listed-none (a .rows .now); ends = λ o x. subst (λ (k : State). ListEnds Q jump (a .limit) (length (a .rows .now) / 256) (alone k) o) f x },
@@ -357,12 +362,21 @@ gone c =
     (e .before .enum-told3 .given .1) (fits e .0) (wrote v) j (sym sj) from (set R (q .back .given .0 .1 .0 - 1) (c .before .without .result)) z y refl refl refl in
     (F, G)
 
+again-requires : tie.Need-again-requires Inv-loop μ-loop
+again-requires c κs = search needs
+
+abbrev backAt : tie.After-again Inv-loop μ-loop → tie.After-back Inv-loop μ-loop
+backAt c = c .before .before .before .before .before .before
+
 loop-less : tie.Need-loop-less Inv-loop μ-loop
-loop-less c = gone c .1
+loop-less c =
+    let b = loopAt (elseAt (backAt c .before .before)) in
+    subst (λ (s : Start). (lim b - s .choices) * suc (n b) + s .it .depth < (lim b - b .loop .from .choices) * suc (n b) + b .loop .from .it .depth) (sym (c .again .ensures)) (gone (c .before) .1)
 
 loop-again : tie.Need-loop-again Inv-loop μ-loop
 loop-again c =
-    let q = c .before .before .before .before .before in
+    let x = c .before in
+    let q = backAt c in
     let v = q .before .before in
     let e = elseAt v in
     let b = loopAt e in
@@ -372,14 +386,18 @@ loop-again c =
     let k = t .1 in
     let r = ready e in
     let p = r .paid in
-    let d : c .jump .result .depth ≡ i .depth - 1 = ap (λ (s : Interpretation). s .level) (c .jump .ensures) ∙ ap (λ (x : ℕ). x - 1) m in (
-      record { ordered = subst (Ordered (n b)) (sym (c .jump .ensures)) (ordered-jump (n b) (view i) (r .ordered) (q .back .given .0 .0 - 1) (omega arith)); paid = omega arith; few = r .few },
+    let d : x .jump .result .depth ≡ i .depth - 1 = ap (λ (s : Interpretation). s .level) (x .jump .ensures) ∙ ap (λ (x : ℕ). x - 1) m in
+    let from : Start = record { it = x .jump .result; choices = handed e .found .choices; skips = handed e .found .skips; passes = handed e .found .passes } in
+    let R : Ready (n b) (lim b) from =
+    record { ordered = subst (Ordered (n b)) (sym (x .jump .ensures)) (ordered-jump (n b) (view i) (r .ordered) (q .back .given .0 .0 - 1) (omega arith)); paid = omega arith; few = r .few } in
+    let reasons = set (x .before .before .before .rows-of .result) (q .back .given .0 .1 .0 - 1) (x .before .without .result) in (
+      subst (Ready (n b) (lim b)) (sym (c .again .ensures)) R,
       let l = fits e .0 in omega arith,
       kept v,
-      gone c .0,
+      subst (λ (s : Start). Done (P b) (lim b) (room b) (old b) (rowsNow v) s reasons (b .loop .number + 1)) (sym (c .again .ensures)) (gone x .0),
     )
 
 pub list-by-spec : {M : Type 1} → statement M
 list-by-spec =
     tie.close
-    (tie.spec Inv-loop μ-loop start-requires no-rows-requires loop-holds search-by-requires enum-told report-requires same-length returns enum-told-2 report-requires-2 same-length-2 returns-2 enum-told-3 report-requires-3 same-length-3 returns-3 mul-write-row write-row-requires add-number cast-k after-plan-requires enum-told-4 report-requires-4 same-length-4 returns-4 enum-known-back rows-of-requires sub-i upto-requires without-requires mul-reasons array-set-from-reasons cast-jump jump-requires loop-less loop-again)
+    (tie.spec Inv-loop μ-loop begin-requires no-rows-requires loop-holds search-by-requires enum-told report-requires same-length returns enum-told-2 report-requires-2 same-length-2 returns-2 enum-told-3 report-requires-3 same-length-3 returns-3 mul-write-row write-row-requires add-number cast-k after-plan-requires enum-told-4 report-requires-4 same-length-4 returns-4 enum-known-back rows-of-requires sub-i upto-requires without-requires mul-reasons array-set-from-reasons cast-jump jump-requires again-requires loop-less loop-again)

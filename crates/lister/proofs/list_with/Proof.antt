@@ -1,4 +1,4 @@
--- `lister::list_in` meets its contract: the judge's refusal, or the report of the defined jumping listing on the accepted table. Assumes nothing.
+-- `lister::list_with` meets its contract: the judge's refusal, or the report of the defined jumping listing on the accepted table. Assumes nothing.
 use borrow.Author.Needs.{needs}
 use mathlib.Core.Path.{_≡_, refl, sym, ap, _∙_}
 use mathlib.Core.Option.{some}
@@ -21,11 +21,11 @@ use Rattle.judging.proofs.Places.{ranges}
 use Rattle.promises.specs.Listings.{rooms}
 use Rattle.lister.specs.Telling.{resultOf}
 use Rattle.lister.proofs.Entry.{listing-refused, listing-accepted, told-by}
-use Rattle.lister.proofs.list_in.Statement.{statement}
-use Rattle.lister.proofs.list_in.Tie as tie
+use Rattle.lister.proofs.list_with.Statement.{statement}
+use Rattle.lister.proofs.list_with.Tie as tie
 
-judge-requires : tie.Need-judge-requires
-judge-requires c κs = search needs
+judge-by-requires : tie.Need-judge-by-requires
+judge-by-requires c κs = search needs
 
 enum-known-fault : tie.Need-enum-known-fault
 enum-known-fault c = search needs
@@ -34,18 +34,15 @@ enum-told : tie.Need-enum-told
 enum-told c = search needs
 
 -- what was accepted
-taken : (c : tie.After-tb) → let j = c .before .before .before in let a = j .before .before .args in
-    (d : Contents) × Accepted (a .words .now) (Rows (length (a .rows .now))) d × Placed (a .words .now) (j .judge .result .table) d
+taken : (c : tie.After-tb) → let j = c .before .before .before in let a = j .before .before .before .args in
+    (d : Contents) × Accepted (a .words .now) (Rows (length (a .rows .now))) d × Placed (a .words .now) (j .judge-by .result .table) d
 taken c =
     let j = c .before .before .before in
-    let a = j .before .before .args in
-    judged-taken (a .words .now) (Rows (length (a .rows .now))) (j .judge .result) (j .judge .ensures) (c .before .enum-told .given .1)
-
-fill-requires : tie.Need-fill-requires
-fill-requires c κs = (taken (c .before) .2 .laid, search needs)
+    let a = j .before .before .before .args in
+    judged-taken (a .words .now) (Rows (length (a .rows .now))) (j .judge-by .result) (j .judge-by .ensures .0) (c .before .enum-told .given .1)
 
 list-by-requires : tie.Need-list-by-requires
-list-by-requires c κs = (taken (c .before .before .before .before) .2 .laid, c .before .before .fill .ensures)
+list-by-requires c κs = let x = c .before .before .before in (taken x .2 .laid, x .before .before .before .judge-by .ensures .1 (x .before .enum-told .given .1))
 
 result-requires : tie.Need-result-requires
 result-requires c κs = search needs
@@ -54,9 +51,9 @@ returns : tie.Need-returns
 returns c =
     let f = c .before .fault .given in
     let j = c .before .before .before in
-    let a = j .before .before .args in
+    let a = j .before .before .before .args in
     listing-refused (a .words .now) (a .ask) (a .rows .now) (a .rows .now) (listed.Refused (f .0 .0)) (f .0 .0)
-    (judged-refused (a .words .now) (Rows (length (a .rows .now))) (j .judge .result) (f .0 .0) (j .judge .ensures) (f .1)) refl refl
+    (judged-refused (a .words .now) (Rows (length (a .rows .now))) (j .judge-by .result) (f .0 .0) (j .judge-by .ensures .0) (f .1)) refl refl
 
 same-length : tie.Need-same-length
 same-length c = search needs
@@ -64,10 +61,10 @@ same-length c = search needs
 returns-2 : tie.Need-returns-2
 returns-2 c =
     let l = c .before .before .before in
-    let b = l .before .before .before .before .before in
+    let b = l .before .before .before .before in
     let j = b .before .before .before in
-    let a = j .before .before .args in
-    let tb = j .judge .result .table in
+    let a = j .before .before .before .args in
+    let tb = j .judge-by .result .table in
     let x = taken b in
     let d = x .0 in
     let p = x .2 in
@@ -79,5 +76,5 @@ returns-2 c =
     listing-accepted (a .words .now) (a .ask) (a .rows .now) (l .list-by .last .1 .1 .1 .1 .0) d (x .1) (accepted-atoms (a .words .now) d (x .1 .holds)) (ranges (a .words .now) d (x .1 .holds) .fewAtoms) o e
     (c .result .result) (c .result .ensures ∙ ap resultOf (g .result) ∙ told-by o) (g .rows)
 
-pub list-in-spec : {M : Type 1} → statement M
-list-in-spec = tie.close (tie.spec judge-requires enum-known-fault enum-told fill-requires list-by-requires result-requires returns same-length returns-2)
+pub list-with-spec : {M : Type 1} → statement M
+list-with-spec = tie.close (tie.spec judge-by-requires enum-known-fault enum-told list-by-requires result-requires returns same-length returns-2)
