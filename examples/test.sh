@@ -13,6 +13,7 @@ fi
 cc -std=c11 -Wall -Wextra -Werror -O2 -I include examples/c/plan.c target/staticlib/libdock.a -o target/examples/plan_c
 cc -std=c11 -Wall -Wextra -Werror -O2 -I include examples/c/aspif.c target/staticlib/libdock.a -o target/examples/aspif
 cc -std=c11 -Wall -Wextra -Werror -O2 -I include examples/c/pins.c target/staticlib/libdock.a -o target/examples/pins_c
+cc -std=c11 -Wall -Wextra -Werror -O2 -I include examples/c/plain.c target/staticlib/libdock.a -o target/examples/plain_c
 rustc -O --edition 2021 -D warnings -L target/staticlib -l static=dock examples/rust/plan.rs -o target/examples/plan_rust
 for program in plan_c plan_rust; do
     "target/examples/$program" | diff - examples/expected
@@ -30,3 +31,5 @@ echo "pins_c: ok"
 cc -std=c11 -Wall -Wextra -Werror -O2 -I include examples/c/list.c target/staticlib/libdock.a -o target/examples/list_c
 target/examples/list_c | diff - examples/expected-list
 echo "list_c: ok"
+target/examples/plain_c | diff - examples/expected-plain
+echo "plain_c: ok"

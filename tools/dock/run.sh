@@ -41,6 +41,10 @@ target/dock/runs lists <tools/dock/lists/stdin | cmp - tools/dock/lists/stdout
 echo "dock: $(($(wc -l <tools/dock/lists/stdout) / 2)) listings through C: as expected"
 target/dock/runs all <crates/run_tables/stdin | cmp - tools/dock/lists/all
 echo "dock: all plans of $(grep -c -v '^-' tools/dock/lists/all) tables through C: as expected"
+target/dock/runs tables both <crates/run_tables/stdin
+target/dock/runs texts both <crates/run_texts/stdin
+target/dock/runs whys both <crates/run_why/stdin
+target/dock/runs passes both <tools/dock/passes/stdin
 if command -v cc >/dev/null && command -v rustc >/dev/null; then
     sh examples/test.sh
 else

@@ -1,5 +1,7 @@
 /* Runs the gate's tables and texts over the compiled library: runs tables | runs texts | runs whys | runs passes | runs lists | runs all. Input from standard input, a line
- * for each case to standard output, as the programs that the gate runs print them; of passes, as tools/passes.py tells, of lists and all, as tools/lists.py. Needs no header of the C library, so that the kit's own compiler builds it. */
+ * for each case to standard output, as the programs that the gate runs print them; of passes, as tools/passes.py tells, of lists and all, as tools/lists.py. With one word
+ * more, as runs tables both, each table goes through the plain engine too: one line then says how many there were, and the status is 0 only if the two engines differ on
+ * none. Needs no header of the C library, so that the kit's own compiler builds it. */
 #define SAUCEPEBBLY_TYPES_GIVEN
 typedef unsigned long size_t;
 typedef int int32_t;
@@ -70,7 +72,7 @@ static void put_atoms(const uint8_t *plan, long bytes) {
             put_number((unsigned long)i + 1);
 }
 
-/* ---- tables, as crates/run_tables has them */
+/* ---- what is lent */
 
 static int32_t words[32768];
 static uint8_t plan[257];
@@ -114,6 +116,62 @@ static void put_refusal(const uint32_t *report) {
     put_number(report[1]);
 }
 
+/* ---- both engines on a table */
+
+enum { PLAIN_LIMIT = 100000 };
+
+static int is_both;
+static uint8_t other[257];
+static unsigned long alike, refused, halted, differing;
+
+/* What saucepebbly_solve said of the words, beside the plain engine, whose limit may be smaller. With no limit in the way: the same kind and plan, no skips, and no fewer choices;
+ * a refusal: the same number and place. The plain engine meets its limit wherever the other meets one. */
+static void compare(size_t count, uint32_t limit, size_t room, uint32_t kind, const uint32_t *report) {
+    uint32_t told[2] = {0, 0};
+    uint32_t plainly = saucepebbly_plain(words, count, limit < PLAIN_LIMIT ? limit : PLAIN_LIMIT, other, room, told, 2);
+    if (plainly == SAUCEPEBBLY_LIMIT) {
+        halted++;
+        return;
+    }
+    int is_same = kind == plainly;
+    for (size_t i = 0; i < room; i++)
+        is_same &= plan[i] == other[i];
+    if (kind == SAUCEPEBBLY_REFUSED)
+        is_same &= told[0] == report[0] && told[1] == report[1];
+    else
+        is_same &= told[1] == 0 && told[0] >= report[0];
+    if (!is_same)
+        differing++;
+    else if (kind == SAUCEPEBBLY_REFUSED)
+        refused++;
+    else
+        alike++;
+}
+
+/* The plan buffer as it is, for the plain engine. */
+static void keep(size_t room) {
+    for (size_t i = 0; i < room; i++)
+        other[i] = plan[i];
+}
+
+static int say_compared(void) {
+    put_text("both engines:");
+    put_number(alike + refused + halted + differing);
+    put_text(" tables,");
+    put_number(alike);
+    put_text(" alike,");
+    put_number(refused);
+    put_text(" refused alike,");
+    put_number(halted);
+    put_text(" at the plain engine's limit,");
+    put_number(differing);
+    put_text(" differ\n");
+    flush();
+    return differing != 0 || alike == 0;
+}
+
+/* ---- a table, as crates/run_tables has it */
+
 /* How many of all plans over a few atoms are approved, and which. */
 static void put_approved(long count, long room) {
     uint32_t report[2];
@@ -135,8 +193,13 @@ static void run_table(long count, long room) {
     uint32_t checked[2] = {0, 0}, solved[2] = {0, 0};
     soil();
     uint32_t verdict = saucepebbly_approve(words, (size_t)count, plan, (size_t)room, checked, 2, lists, candidates);
+    keep((size_t)room);
     soil();
     uint32_t kind = saucepebbly_solve(words, (size_t)count, 4294967295u, plan, (size_t)room, solved, 2, (uint16_t *)0, 0, lists, candidates);
+    if (is_both) {
+        compare((size_t)count, 4294967295u, (size_t)room, kind, solved);
+        return;
+    }
     if (kind == SAUCEPEBBLY_ANSWER) {
         put_text("answer");
         put_atoms(plan, room);
@@ -287,9 +350,16 @@ static void run_text(size_t n, size_t places) {
         plan[i] = 0;
     for (int i = 0; i < 512; i++)
         whys[i] = 9;
+    keep(256);
     soil();
-    if (report[0] == 0)
+    int is_read = report[0] == 0;
+    if (is_read)
         kind = saucepebbly_solve(words, count, limit, plan, 256, report, places, whys, 512, lists, candidates);
+    if (is_both) {
+        if (is_read)
+            compare(count, limit, 256, kind, report);
+        return;
+    }
     put_text(names[kind]);
     for (size_t i = 0; i < places; i++)
         put_number(report[i]);
@@ -330,22 +400,25 @@ static void run_texts(int is_why, size_t places) {
             run_list(n);
         else
             run_text(n, places);
-        if (is_why)
+        if (is_why && !is_both)
             put_whys();
     }
 }
 
 int main(int argc, char **argv) {
-    if (argc == 2 && argv[1][0] == 'w')
+    is_both = argc == 3;
+    if (argc >= 2 && argv[1][0] == 'w')
         run_texts(1, 2);
-    else if (argc == 2 && argv[1][0] == 'p')
+    else if (argc >= 2 && argv[1][0] == 'p')
         run_texts(0, 3);
-    else if (argc == 2 && argv[1][0] == 'l')
+    else if (argc >= 2 && argv[1][0] == 'l')
         run_texts(0, 4);
-    else if (argc == 2 && argv[1][0] == 't' && argv[1][1] == 'e')
+    else if (argc >= 2 && argv[1][0] == 't' && argv[1][1] == 'e')
         run_texts(0, 2);
     else
         run_tables(argc == 2 && argv[1][0] == 'a');
+    if (is_both)
+        return say_compared();
     flush();
     return 0;
 }

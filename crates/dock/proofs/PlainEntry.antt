@@ -18,7 +18,7 @@ use Rattle.dock.specs.Plain.{SolvesPlainly}
 pub plainly-unique-in-c : (t : List ℤ) (lim : ℕ) (old report : List ℕ) (new new′ told told′ : List ℕ) (k k′ : ℕ) → SolvesPlainly t lim old new report told k → SolvesPlainly t lim old new′ report told′ k′
     → (k ≡ k′) × (new ≡ new′) × (told ≡ told′)
 plainly-unique-in-c t lim old report new new′ told told′ k k′ a b =
-    let u = plainly-unique t lim old new new′ (a .result) (b .result) (a .solving) (b .solving) in (
+    let u = plainly-unique t (record { limit = lim }) old new new′ (a .result) (b .result) (a .solving) (b .solving) in (
       a .kind ∙ ap kindOf (u .0) ∙ sym (b .kind),
       u .1,
       a .report ∙ ap (λ (r : Solved). reported (firstOf r) (secondOf r) report) (u .0) ∙ sym (b .report),

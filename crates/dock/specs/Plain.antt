@@ -12,6 +12,6 @@ use Rattle.dock.specs.Dock.{firstOf, secondOf, reported}
 
 pub record SolvesPlainly (t : List ℤ) (lim : ℕ) (oldPlan newPlan oldReport newReport : List ℕ) (k : ℕ) : Type 0 where
   pub result : Solved
-  pub solving : Plainly t lim oldPlan newPlan result
+  pub solving : Plainly t (record { limit = lim }) oldPlan newPlan result
   pub kind : k ≡ kindOf result
   pub report : newReport ≡ reported (firstOf result) (secondOf result) oldReport

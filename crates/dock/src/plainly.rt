@@ -4,6 +4,7 @@ use crate::first;
 use crate::kind;
 use crate::second;
 use crate::write;
+use results::Ask;
 
 // The night's plan by the plain search: the kind of the result, and in the report its two numbers.
 #[no_mangle]
@@ -15,7 +16,8 @@ pub extern "C" fn saucepebbly_plain(
 ) -> u32
     ensures { λ k. ⌜ SolvesPlainly (now (words .entry)) limit (now (plan .entry)) (now (plan .exit)) (now (report .entry)) (now (report .exit)) k ⌝ }
 {
-    let solved = plain::solve(words, limit, plan);
+    let ask = Ask { limit };
+    let solved = plain::solve(words, ask, plan);
     write(report, first(solved), second(solved));
     kind(solved)
 }

@@ -1,278 +1,289 @@
--- What the two parts of the engine hand back, as the engine of crate `search`, whose sides depend on the values alone.
---   tries-alike      a side tried from interpretations whose cells are alike says the same
---   passes-test, fails-test, conflict-side, settled-side             a side that ends; and one that goes on
+-- What the two parts of the engine hand back, as the engine of crate `search` says it.
+--   tried            a side: propagation, and then a choice
+--   conflict-side, tested-all, at-limit, first-ends, other-side      what a choice comes to
+--   fewer            a choice leaves fewer atoms undefined; propagation leaves no more (`no-more`)
+--   passes-test, fails-test                                          the final test
 --   found-outcome    what the side of no choice at all holds is what the plain search ends with
---   tested-all, at-limit, first-answers, first-halts, other-side     what a choice comes to
 -- Assumes nothing.
 use Prim.Native.Nat.{ℕ, zero, suc, _+_, _-_, _≤_, _<_}
 use native.Mathlib.Omega.{arith}
-use mathlib.Core.Path.{_≡_, refl, sym, _∙_, ap, ap₂, subst, fun-ext}
+use mathlib.Core.Path.{_≡_, refl, sym, _∙_, ap, subst}
+use mathlib.Core.Logic.{_≢_}
 use mathlib.Core.Bool.{Bool, true, false}
-use mathlib.Core.Option.{Option, none, some}
+use mathlib.Core.Option.{none, some}
 use mathlib.Core.List.{List, []}
+use lib.IntN.{ℤ}
 use lib.ListN.{replicate}
 use Rattle.meaning.specs.Cond.{ifLt}
 use Rattle.meaning.specs.Aggregates.{Atoms}
-use Rattle.meaning.specs.Program.{Program, AtomsIn}
-use Rattle.meaning.proofs.Tools.{clash}
-use Rattle.meaning.proofs.Cond.{ifLt-yes, ifLt-no}
-use Rattle.interpretation.specs.State.{Cell, undefined, defined, Interpretation, put, setAt, lowest, lowestStep, truthOf, trueAtoms, withCells}
-use Rattle.interpretation.specs.View.{cellValue, valued}
-use Rattle.interpretation.specs.declared.Value.{Value}
-use Rattle.interpretation.specs.declared.Value.the-variants.{True, False, Undefined}
-use Rattle.valuing.specs.Values.{saysTrue}
-use Rattle.steps.specs.Steps.{Verdict, settled, conflict, isSettled, Propagated, passes, begin, propagate}
 use Rattle.meaning.specs.Answers.{AnswerSet}
+use Rattle.meaning.specs.Foundedness.{founded}
+use Rattle.meaning.specs.Program.{Program, AtomsIn}
+use Rattle.meaning.proofs.Cond.{ifLt-yes, ifLt-no}
+use Rattle.interpretation.specs.State.{Cell, undefined, defined, Interpretation, put, setAt, lowest, trueAtoms, withCells}
+use Rattle.interpretation.specs.View.{cellValue, valued}
 use Rattle.interpretation.proofs.Laws.{cells-blank}
-use Rattle.search.specs.Search.{openedAs, limit, Outcome, plain, start, solve}
+use Rattle.levels.specs.Levels.{noLevels}
+use Rattle.results.specs.declared.Counts.{Counts}
+use Rattle.results.specs.declared.Solved.{Solved}
+use Rattle.results.specs.declared.Solved.the-variants as solved
+use Rattle.results.specs.Results.{kindOf, countsOf}
+use Rattle.layout.specs.declared.Table.{Table}
+use Rattle.layout.specs.Layout.{programOf}
+use Rattle.steps.specs.Steps as steps
+use Rattle.steps.specs.Steps.{Verdict, isSettled, Propagated, passes, begin, propagate}
+use Rattle.search.specs.Search.{Problem, Result, noAnswer, limit, Outcome, openedAs, plain, start, solve}
 use Rattle.search.specs.Laws.{Laws}
+use Rattle.search.specs.Engine as engine
+use Rattle.search.specs.Engine.{Tried, nothing, halted, noReasons, byTest, orOther, opens, goesOn, tries}
+use Rattle.search.specs.Base.{verdictOf, base}
 use Rattle.search.proofs.Engine.{engine-right}
 use Rattle.search.proofs.Theorems.{limit-is-reached}
-use Rattle.search.specs.Engine as engine
-use Rattle.search.specs.Engine.{noReasons, byTest, orOther, opens, goesOn, tries}
-use Rattle.search.specs.Base.{verdictOf, foundedTest, base}
-use Rattle.plain.specs.declared.Ending.{Ending}
-use Rattle.plain.specs.declared.Ending.the-variants.{Answer, Nothing, Limit}
-use Rattle.plain.specs.declared.Tried.{Tried}
 use Rattle.search.proofs.Parts.{lowest-some}
 use Rattle.search.proofs.Struct.{propagate-str}
-use Rattle.passes.specs.declared.Pass.{Pass}
-use Rattle.passes.specs.Passes.{Alike, Like, bare, verdictBy, workOf, undefinedTo}
-use Rattle.plain.specs.Plain.{toldBy, told, Limited, Sided, Chosen, resultBy, resultOf}
-use Rattle.passes.proofs.Liking.{put-alike, propagated-cells, propagated-verdict, propagate-cells, propagate-verdict}
-use Rattle.passes.proofs.Undefined.{undefined-top, undefined-alike, undefined-put, undefined-keeps}
+use Rattle.promises.specs.Plans.{planWith}
+use Rattle.promises.specs.Promises.{solvedBy, planAfter}
+use Rattle.plain.specs.declared.passes.Side.{Side}
+use Rattle.plain.specs.Promise.{plainCounts}
+use Rattle.plain.specs.Passes.{Alike, Like, bare, verdictBy, workOf, Comes, undefinedTo}
+use Rattle.plain.specs.Plain.{resultBy, choicesBy, Told, Sided, Chosen, Tests}
+use Rattle.plain.proofs.Liking.{put-alike, propagated-cells, propagated-verdict}
+use Rattle.plain.proofs.Undefined.{undefined-top, undefined-alike, undefined-put, undefined-keeps}
+use Rattle.plain.proofs.Stepping.{free-of}
+use Rattle.plain.proofs.Alone.{goes-alike, tries-alike}
 
--- ---- what the values alone say
+-- ---- what is told of a side that holds nothing, and of one that holds something
 
-truth-by : (c : Cell) → truthOf c ≡ saysTrue (cellValue c)
-truth-by undefined = refl
-truth-by (defined true l) = refl
-truth-by (defined false l) = refl
+module _ (n lim : ℕ) (old new : List ℕ) (r : Solved) where
+  told-nothing : (e : Tried) → Told n lim e old new r → (c : Counts) → r ≡ solved.Nothing c → (e ≡ nothing (c .choices)) × (new ≡ old)
+  told-nothing (engine.plan X k) T c z = absurd (let h : _≡_ {A = ℕ} 0 1 = ap kindOf (sym (T .result) ∙ z) in omega arith)
+  told-nothing (nothing k) T c z = (ap (λ (s : Solved). nothing (countsOf s .choices)) (sym (T .result) ∙ z), T .plan)
+  told-nothing halted T c z = absurd (let h : _≡_ {A = ℕ} 2 1 = ap kindOf (sym (T .result) ∙ z) in omega arith)
 
--- the lowest undefined atom, by an atom's value
-abbrev lowestBy : Option ℕ → ℕ → Value → Option ℕ
-lowestBy (some p) n v = some p
-lowestBy none n Undefined = some n
-lowestBy none n True = none
-lowestBy none n False = none
+  or-first : (e : Tried) (other : ℕ → Tried) → Told n lim e old new r → kindOf r ≢ 1 → orOther e other ≡ e
+  or-first (engine.plan X k) other T m = refl
+  or-first (nothing k) other T m = absurd (m (ap kindOf (T .result)))
+  or-first halted other T m = refl
 
-lowest-by : (o : Option ℕ) (n : ℕ) (c : Cell) → lowestStep o n c ≡ lowestBy o n (cellValue c)
-lowest-by (some p) n c = refl
-lowest-by none n undefined = refl
-lowest-by none n (defined true l) = refl
-lowest-by none n (defined false l) = refl
+module _ (t : List ℤ) (tb : Table) (lim : ℕ) where
+  abbrev P : Program
+  P = programOf t tb
 
-module _ (a b : ℕ → Cell) (h : Alike a b) where
-  pub true-alike : (n : ℕ) → trueAtoms n a ≡ trueAtoms n b
-  true-alike n = fun-ext at
-    where
-      at : (p : ℕ) → trueAtoms n a p ≡ trueAtoms n b p
-      at zero = refl
-      at (suc q) = ap (λ (x : Bool). ifLt q n x false) (truth-by (a (suc q)) ∙ ap saysTrue (h (suc q)) ∙ sym (truth-by (b (suc q))))
+  abbrev n : ℕ
+  n = tb .atoms
 
-  pub lowest-alike : (n : ℕ) → lowest a n ≡ lowest b n
-  unfolding lowest
-  lowest-alike zero = refl
-  lowest-alike (suc n) =
-      lowest-by (lowest a n) (suc n) (a (suc n)) ∙ ap₂ (λ (o : Option ℕ) (v : Value). lowestBy o (suc n) v) (lowest-alike n) (h (suc n))
-      ∙ sym (lowest-by (lowest b n) (suc n) (b (suc n)))
+  abbrev B : Problem
+  B = base (programOf t tb) (tb .atoms)
 
--- ---- a side depends on the values alone
+  -- ---- a side: propagation, and then a choice
 
-module _ (P : Program) (n lim : ℕ) where
-  abbrev Same : ℕ → Type 0
-  Same u = (i j : Interpretation) (k : ℕ) → Alike (i .cell) (j .cell) → tries (base P n) lim u i k ≡ tries (base P n) lim u j k
+  module _ (side s : Side) (calm : side .conflict ≡ false) (S : Comes side s (passes (programOf t tb) (tb .atoms) (suc (tb .atoms)) (workOf side))) where
+    abbrev after : Propagated
+    after = propagate P n (bare (side .values)) noReasons
 
-  module _ (u : ℕ) (rec : Same u) where
-    abbrev side : Interpretation → ℕ → engine.Tried
-    side = tries (base P n) lim u
+    abbrev at : Interpretation
+    at = withCells (bare (side .values)) (after .cell)
 
-    opens-at : (i j : Interpretation) (k : ℕ) → Alike (i .cell) (j .cell) → (o : Option ℕ) → opens (base P n) lim side i k o ≡ opens (base P n) lim side j k o
-    opens-at i j k h none = ap (λ (X : Atoms). byTest X k (foundedTest P n (lim - k) X)) (true-alike (i .cell) (j .cell) h n)
-    opens-at i j k h (some p) =
-        ap (λ (r : engine.Tried). ifLt k lim r engine.halted)
-        (ap₂ orOther (rec (openedAs true p i) (openedAs true p j) (suc k) (put-alike p true (suc (i .level)) (suc (j .level)) (i .cell) (j .cell) h))
-        (fun-ext (λ m. rec (setAt p false i) (setAt p false j) m (put-alike p false (i .level) (j .level) (i .cell) (j .cell) h))))
+    begun : Like (workOf s) (passes P n (suc n) (begin (bare (side .values)) noReasons))
+    begun =
+        subst (λ (v : Verdict). Like (workOf s) (passes P n (suc n) (record { level = 0; cell = valued (side .values); reason = noReasons; verdict = v; changed = false }))) (ap verdictBy calm) (S .like)
 
-    pub opens-alike : (i j : Interpretation) (k : ℕ) → Alike (i .cell) (j .cell) → opens (base P n) lim side i k (lowest (i .cell) n) ≡ opens (base P n) lim side j k (lowest (j .cell) n)
-    opens-alike i j k h = opens-at i j k h (lowest (i .cell) n) ∙ ap (opens (base P n) lim side j k) (lowest-alike (i .cell) (j .cell) h n)
-
-    goes-alike : (i j : Interpretation) (k : ℕ) → Alike (i .cell) (j .cell) → (v w : Verdict) → isSettled v ≡ isSettled w → goesOn (base P n) lim side i k v ≡ goesOn (base P n) lim side j k w
-    goes-alike i j k h settled settled e = opens-alike i j k h
-    goes-alike i j k h settled (conflict C) e = absurd (clash (sym e) refl)
-    goes-alike i j k h (conflict C) settled e = absurd (clash e refl)
-    goes-alike i j k h (conflict C) (conflict D) e = refl
-
-  pub tries-alike : (u : ℕ) → Same u
-  unfolding tries
-  tries-alike zero i j k h = refl
-  tries-alike (suc u) i j k h =
-      goes-alike u (tries-alike u) (withCells i ((propagate P n i noReasons) .cell)) (withCells j ((propagate P n j noReasons) .cell)) k (propagate-cells P n i j noReasons noReasons h)
-      ((propagate P n i noReasons) .verdict) ((propagate P n j noReasons) .verdict) (propagate-verdict P n i j noReasons noReasons h)
-
--- ---- the final test
-
-module _ (n : ℕ) (values : List ℕ) (k : ℕ) (f : Bool) (r : Tried) where
-  abbrev X : Atoms
-  X = trueAtoms n (valued values)
-
-  as-told : (e : Ending) → r ≡ record { values = values; ending = e; choices = k } → (r .choices ≡ k) × (r .ending ≡ e)
-  as-told e h = (ap (λ (s : Tried). s .choices) h, ap (λ (s : Tried). s .ending) h)
-
-  pub passes-test : f ≡ true → r ≡ record { values = values; ending = Answer; choices = k } → (told n r ≡ byTest X k (verdictOf f)) × (r .choices ≡ k) × (r .ending ≡ Limit → ⊥)
-  passes-test e h =
-      let z : k ≡ 0 + k = omega arith in
-      let t = as-told Answer h in
-      (ap (told n) h ∙ ap (engine.plan X) z ∙ ap (λ (b : Bool). byTest X k (verdictOf b)) (sym e), t .0, λ i. (let j = t .1 in let z : _≡_ {A = ℕ} 0 1 = cc in omega arith))
-
-  pub fails-test : f ≡ false → r ≡ record { values = values; ending = Nothing; choices = k } → (told n r ≡ byTest X k (verdictOf f)) × (r .choices ≡ k) × (r .ending ≡ Limit → ⊥)
-  fails-test e h =
-      let z : k ≡ 0 + k = omega arith in
-      let t = as-told Nothing h in
-      (ap (told n) h ∙ ap engine.nothing z ∙ ap (λ (b : Bool). byTest X k (verdictOf b)) (sym e), t .0, λ i. (let j = t .1 in let z : _≡_ {A = ℕ} 0 1 = cc in omega arith))
-
--- ---- a side
-
-told-by : (n : ℕ) (r : Tried) (e : Ending) → r .ending ≡ e → told n r ≡ toldBy e (trueAtoms n (valued (r .values))) (r .choices)
-told-by n r e h = ap (λ (x : Ending). toldBy x (trueAtoms n (valued (r .values))) (r .choices)) h
-
-module _ (P : Program) (n lim : ℕ) (values : List ℕ) (k : ℕ) where
-  abbrev after : Propagated
-  after = propagate P n (bare values) noReasons
-
-  abbrev at : Interpretation
-  at = withCells (bare values) (after .cell)
-
-  tries-suc : (u : ℕ) → tries (base P n) lim (suc u) (bare values) k ≡ goesOn (base P n) lim (tries (base P n) lim u) at k (after .verdict)
-  unfolding tries
-  tries-suc u = refl
-
-  tries-on : (u : ℕ) → 0 < u → tries (base P n) lim u (bare values) k ≡ goesOn (base P n) lim (tries (base P n) lim (u - 1)) at k (after .verdict)
-  tries-on u h = let e : u ≡ suc (u - 1) = omega arith in ap (λ (m : ℕ). tries (base P n) lim m (bare values) k) e ∙ tries-suc (u - 1)
-
-  goes-conflict : (side : Interpretation → ℕ → engine.Tried) (v : Verdict) → isSettled v ≡ false → goesOn (base P n) lim side at k v ≡ engine.nothing k
-  goes-conflict side settled e = absurd (clash refl e)
-  goes-conflict side (conflict C) e = refl
-
-  goes-settled : (side : Interpretation → ℕ → engine.Tried) (v : Verdict) → isSettled v ≡ true → goesOn (base P n) lim side at k v ≡ opens (base P n) lim side at k (lowest (after .cell) n)
-  goes-settled side settled e = refl
-  goes-settled side (conflict C) e = absurd (clash e refl)
-
-  module _ (s : Pass) (S : Like (workOf s) (passes P n (suc n) (begin (bare values) noReasons))) where
     cells : Alike (valued (s .values)) (after .cell)
-    cells = propagated-cells P n (bare values) noReasons (workOf s) S
+    cells = propagated-cells P n (bare (side .values)) noReasons (workOf s) begun
 
-    settles : (b : Bool) → s .conflict ≡ b → isSettled (after .verdict) ≡ isSettled (verdictBy b)
-    settles b e = sym (propagated-verdict P n (bare values) noReasons (workOf s) S) ∙ ap (λ (c : Bool). isSettled (verdictBy c)) e
+    tries-suc : (u : ℕ) → tries B lim (suc u) (bare (side .values)) (side .choices) ≡ goesOn B lim (tries B lim u) at (side .choices) (after .verdict)
+    unfolding tries
+    tries-suc u = refl
 
-    pub conflict-side : s .conflict ≡ true → k ≤ lim → (r : Tried) (vs : List ℕ) → r ≡ record { values = vs; ending = Nothing; choices = k } → Sided P n lim values k r
-    conflict-side c few r vs e = record {
-      says = λ u h. ap (told n) e ∙ sym (tries-on u (omega arith) ∙ goes-conflict (tries (base P n) lim (u - 1)) (after .verdict) (settles true c));
-      limited = record {
-        few = subst (λ (x : Tried). x .choices ≤ lim) (sym e) few;
-        reached = λ i. absurd (let j = ap (λ (x : Tried). x .ending) e in let z : _≡_ {A = ℕ} 0 1 = cc in omega arith);
-      };
-    }
+    tries-on : (u : ℕ) → 0 < u → tries B lim u (bare (side .values)) (side .choices) ≡ goesOn B lim (tries B lim (u - 1)) at (side .choices) (after .verdict)
+    tries-on u h = let e : u ≡ suc (u - 1) = omega arith in ap (λ (m : ℕ). tries B lim m (bare (side .values)) (side .choices)) e ∙ tries-suc (u - 1)
 
     -- propagation leaves no more atoms undefined
-    pub no-more : AtomsIn n P → undefinedTo n (valued (s .values)) ≤ undefinedTo n (valued values)
+    pub no-more : AtomsIn n P → undefinedTo n (valued (s .values)) ≤ undefinedTo n (valued (side .values))
     no-more A =
         let e = undefined-alike (valued (s .values)) (after .cell) cells n in
-        let h = undefined-keeps (valued values) (after .cell) (λ p v l z. (v, l, propagate-str (bare values) noReasons P n A .cells p v l z)) n in
+        let h = undefined-keeps (valued (side .values)) (after .cell) (λ p v l z. (v, l, propagate-str (bare (side .values)) noReasons P n A .cells p v l z)) n in
         omega arith
 
-    pub settled-side : AtomsIn n P → s .conflict ≡ false → (r : Tried) → Chosen P n lim (s .values) k r → Sided P n lim values k r
-    settled-side A c r C = record {
+    goes : (u : ℕ) → 0 < u
+        → goesOn B lim (tries B lim (u - 1)) (bare (s .values)) (s .choices) (verdictBy (s .conflict)) ≡ tries B lim u (bare (side .values)) (side .choices)
+    goes u h =
+        ap (λ (k : ℕ). goesOn B lim (tries B lim (u - 1)) (bare (s .values)) k (verdictBy (s .conflict))) (S .kept)
+        ∙ goes-alike P n lim (u - 1) (tries-alike P n lim (u - 1)) (bare (s .values)) at (side .choices) cells (verdictBy (s .conflict)) (after .verdict)
+        (propagated-verdict P n (bare (side .values)) noReasons (workOf s) begun)
+        ∙ sym (tries-on u h)
+
+    pub tried : AtomsIn n P → (old new : List ℕ) (r : Solved) → Chosen t tb lim s old new r → Sided t tb lim side old new r
+    tried A old new r C = record {
       says = λ u h.
           (let l = no-more A in
-          C .says (u - 1) (omega arith) ∙ opens-alike P n lim (u - 1) (tries-alike P n lim (u - 1)) (bare (s .values)) at k cells
-          ∙ sym (tries-on u (omega arith) ∙ goes-settled (tries (base P n) lim (u - 1)) (after .verdict) (settles false c)));
-      limited = C .limited;
+          subst (λ (e : Tried). Told n lim e old new r) (goes u (omega arith)) (C .says (u - 1) (omega arith)));
+      few = C .few;
     }
 
   -- ---- a choice
 
-  pub tested-all : lowest (valued values) n ≡ none → k ≤ lim → (r : Tried)
-      → (told n r ≡ byTest (trueAtoms n (valued values)) k (foundedTest P n 0 (trueAtoms n (valued values)))) × (r .choices ≡ k) × (r .ending ≡ Limit → ⊥) → Chosen P n lim values k r
-  tested-all z few r (e, f, g) = record {
-    says = λ u h. e ∙ ap (opens (base P n) lim (tries (base P n) lim u) (bare values) k) (sym z);
-    limited = record { few = rw f few; reached = λ i. absurd (g i) };
-  }
-
-  module _ (p : ℕ) (z : lowest (valued values) n ≡ some p) where
-    abbrev sides : ℕ → engine.Tried
-    sides u = orOther (tries (base P n) lim u (openedAs true p (bare values)) (suc k)) (λ m. tries (base P n) lim u (setAt p false (bare values)) m)
-
-    opened : (u : ℕ) → k < lim → opens (base P n) lim (tries (base P n) lim u) (bare values) k (lowest (valued values) n) ≡ sides u
-    opened u h = ap (opens (base P n) lim (tries (base P n) lim u) (bare values) k) z ∙ ifLt-yes k lim (sides u) engine.halted h
-
-    pub at-limit : lim ≤ k → k ≤ lim → (r : Tried) → r ≡ record { values = values; ending = Limit; choices = k } → Chosen P n lim values k r
-    at-limit h few r e = record {
-      says = λ u l. ap (told n) e ∙ sym (ap (opens (base P n) lim (tries (base P n) lim u) (bare values) k) z ∙ ifLt-no k lim (sides u) engine.halted h);
-      limited = record {
-        few = subst (λ (x : Tried). x .choices ≤ lim) (sym e) few;
-        reached = λ i. ap (λ (x : Tried). x .choices) e ∙ (let y : k ≡ lim = omega arith in y);
-      };
+  module _ (side : Side) (old new : List ℕ) (r : Solved) where
+    -- by whether propagation met a conflict
+    chosen : (b : Bool) → side .conflict ≡ b
+        → ((u : ℕ) → undefinedTo n (valued (side .values)) ≤ u → Told n lim (goesOn B lim (tries B lim u) (bare (side .values)) (side .choices) (verdictBy b)) old new r)
+        → countsOf r .choices ≤ lim → Chosen t tb lim side old new r
+    chosen b e f few = record {
+      says = λ u h. subst (λ (c : Bool). Told n lim (goesOn B lim (tries B lim u) (bare (side .values)) (side .choices) (verdictBy c)) old new r) (sym e) (f u h);
+      few = few;
     }
 
-    low : (1 ≤ p) × (p ≤ n) × (valued values p ≡ undefined)
-    low = let t = lowest-some (valued values) n p z in (t .0, t .1, t .2)
+  module _ (side : Side) where
+    abbrev k : ℕ
+    k = side .choices
 
-    -- the values with atom p set: fewer are undefined
-    module _ (v : Bool) (side : List ℕ) (s : valued side ≡ put p (defined v 0) (valued values)) where
-      pub fewer : undefinedTo n (valued side) < undefinedTo n (valued values)
-      fewer = subst (λ (a : ℕ → Cell). undefinedTo n a < undefinedTo n (valued values)) (sym s) (undefined-put n (valued values) p v 0 (low .0, low .1) (low .2))
+    abbrev opening : ℕ → Tried
+    opening u = opens B lim (tries B lim u) (bare (side .values)) (side .choices) (lowest (valued (side .values)) n)
 
-      alike : (l : ℕ) → Alike (put p (defined v l) (valued values)) (valued side)
-      alike l = subst (λ (a : ℕ → Cell). Alike (put p (defined v l) (valued values)) a) (sym s) (put-alike p v l 0 (valued values) (valued values) (λ q. refl))
+    pub conflict-side : side .conflict ≡ true → side .choices ≤ lim → (old : List ℕ) (c : Counts) → c ≡ plainCounts (side .choices) → Chosen t tb lim side old old (solved.Nothing c)
+    conflict-side z few old c e =
+        chosen side old old (solved.Nothing c) true z (λ u h. record { result = ap solved.Nothing e; plan = refl }) (subst (λ (x : Counts). x .choices ≤ lim) (sym e) few)
 
-    module _ (h : k < lim) (yes : List ℕ) (s : valued yes ≡ put p (defined true 0) (valued values)) (first : Tried) (F : Sided P n lim yes (k + 1) first) where
-      first-side : (u : ℕ) → undefinedTo n (valued values) ≤ u → tries (base P n) lim u (openedAs true p (bare values)) (suc k) ≡ told n first
-      first-side u l =
-          let f = fewer true yes s in
-          let e : suc k ≡ k + 1 = omega arith in
-          tries-alike P n lim u (openedAs true p (bare values)) (bare yes) (suc k) (alike true yes s 1)
-          ∙ ap (tries (base P n) lim u (bare yes)) e ∙ sym (F .says u (omega arith))
+    pub tested-all : side .conflict ≡ false → lowest (valued (side .values)) n ≡ none → side .choices ≤ lim → (old new : List ℕ) (r : Solved) → Tests t tb side old new r
+        → Chosen t tb lim side old new r
+    tested-all z l few old new r T =
+        chosen side old new r false z
+        (λ u h. subst (λ (e : Tried). Told n lim e old new r) (ap (opens B lim (tries B lim u) (bare (side .values)) (side .choices)) (sym l)) (T .says lim))
+        (let e = T .same in omega arith)
 
-      by-first : (u : ℕ) → undefinedTo n (valued values) ≤ u → (e : Ending) → first .ending ≡ e
-          → opens (base P n) lim (tries (base P n) lim u) (bare values) k (lowest (valued values) n) ≡ orOther (toldBy e (trueAtoms n (valued (first .values))) (first .choices)) (λ m. tries (base P n) lim u (setAt p false (bare values)) m)
-      by-first u l e i =
-          opened u h ∙ ap (λ (x : engine.Tried). orOther x (λ m. tries (base P n) lim u (setAt p false (bare values)) m)) (first-side u l ∙ told-by n first e i)
+    module _ (z : side .conflict ≡ false) (p : ℕ) (l : lowest (valued (side .values)) n ≡ some p) where
+      abbrev sides : ℕ → Tried
+      sides u = orOther (tries B lim u (openedAs true p (bare (side .values))) (suc k)) (λ m. tries B lim u (setAt p false (bare (side .values))) m)
 
-      pub first-answers : first .ending ≡ Answer → Chosen P n lim values k first
-      first-answers i = record { says = λ u l. told-by n first Answer i ∙ sym (by-first u l Answer i); limited = F .limited }
+      opened : (u : ℕ) → k < lim → opening u ≡ sides u
+      opened u h = ap (opens B lim (tries B lim u) (bare (side .values)) k) l ∙ ifLt-yes k lim (sides u) halted h
 
-      pub first-halts : first .ending ≡ Limit → Chosen P n lim values k first
-      first-halts i = record { says = λ u l. told-by n first Limit i ∙ sym (by-first u l Limit i); limited = F .limited }
+      pub at-limit : lim ≤ side .choices → side .choices ≤ lim → (old : List ℕ) (c : Counts) → c ≡ plainCounts (side .choices) → Chosen t tb lim side old old (solved.Limit c)
+      at-limit h few old c e =
+          let y : side .choices ≡ lim = omega arith in
+          chosen side old old (solved.Limit c) false z
+          (λ u g.
+          subst (λ (x : Tried). Told n lim x old old (solved.Limit c)) (sym (ap (opens B lim (tries B lim u) (bare (side .values)) k) l ∙ ifLt-no k lim (sides u) halted h))
+          (record { result = ap solved.Limit (e ∙ ap plainCounts y); plan = refl }))
+          (subst (λ (x : Counts). x .choices ≤ lim) (sym e) few)
 
-      -- nothing on the first side
-      pub other-side : first .ending ≡ Nothing → (later : List ℕ) → valued later ≡ put p (defined false 0) (valued values) → (second : Tried) → Sided P n lim later (first .choices) second → Chosen P n lim values k second
-      other-side i later t second S = record {
-        says = λ u l.
-            (let f = fewer false later t in
-            S .says u (omega arith) ∙ sym (by-first u l Nothing i ∙ tries-alike P n lim u (setAt p false (bare values)) (bare later) (first .choices) (alike false later t 0)));
-        limited = S .limited;
-      }
+      low : (1 ≤ p) × (p ≤ n) × (valued (side .values) p ≡ undefined)
+      low = let x = lowest-some (valued (side .values)) n p l in (x .0, x .1, x .2)
+
+      -- the side on which atom p is v: fewer atoms are undefined
+      module _ (v : Bool) (s : Side) (S : Like (workOf s) (steps.set p v noLevels (workOf side))) where
+        pub fewer : undefinedTo n (valued (s .values)) < undefinedTo n (valued (side .values))
+        fewer =
+            let e = undefined-alike (valued (s .values)) (put p (defined v 0) (valued (side .values))) (S .cells) n in
+            let h = undefined-put n (valued (side .values)) p v 0 (low .0, low .1) (low .2) in
+            omega arith
+
+        -- it has met no conflict yet
+        pub calm-still : s .conflict ≡ false
+        calm-still = free-of s (steps.set p v noLevels (workOf side)) S (ap verdictBy z)
+
+        alike : (m : ℕ) → Alike (put p (defined v m) (valued (side .values))) (valued (s .values))
+        alike m q = put-alike p v m 0 (valued (side .values)) (valued (side .values)) (λ q. refl) q ∙ sym (S .cells q)
+
+      module _ (h : side .choices < lim) (yes : Side) (S : Like (workOf yes) (steps.set p true noLevels (workOf side))) (one : yes .choices ≡ side .choices + 1)
+          (old mid : List ℕ) (first : Solved) (F : Sided t tb lim yes old mid first) where
+        first-side : (u : ℕ) → tries B lim u (openedAs true p (bare (side .values))) (suc k) ≡ tries B lim u (bare (yes .values)) (yes .choices)
+        first-side u =
+            let e : suc k ≡ yes .choices = omega arith in
+            tries-alike P n lim u (openedAs true p (bare (side .values))) (bare (yes .values)) (suc k) (alike true yes S 1) ∙ ap (tries B lim u (bare (yes .values))) e
+
+        by-first : (u : ℕ) → undefinedTo n (valued (side .values)) ≤ u → Told n lim (tries B lim u (bare (yes .values)) (yes .choices)) old mid first
+        by-first u g = let f = fewer true yes S in F .says u (omega arith)
+
+        first-then : (u : ℕ) → opening u ≡ orOther (tries B lim u (bare (yes .values)) (yes .choices)) (λ m. tries B lim u (setAt p false (bare (side .values))) m)
+        first-then u = opened u h ∙ ap (λ (x : Tried). orOther x (λ m. tries B lim u (setAt p false (bare (side .values))) m)) (first-side u)
+
+        -- the first side ends the search
+        pub first-ends : kindOf first ≢ 1 → Chosen t tb lim side old mid first
+        first-ends m =
+            chosen side old mid first false z
+            (λ u g.
+            (let T = by-first u g in
+            subst (λ (x : Tried). Told n lim x old mid first)
+            (sym (first-then u ∙ or-first n lim old mid first (tries B lim u (bare (yes .values)) (yes .choices)) (λ m. tries B lim u (setAt p false (bare (side .values))) m) T m)) T))
+            (F .few)
+
+        -- nothing on the first side: the buffer is as it was, and the other one is tried
+        module _ (c : Counts) (i : first ≡ solved.Nothing c) where
+          nothing-first : (u : ℕ) → undefinedTo n (valued (side .values)) ≤ u → (tries B lim u (bare (yes .values)) (yes .choices) ≡ nothing (c .choices)) × (mid ≡ old)
+          nothing-first u g = told-nothing n lim old mid first (tries B lim u (bare (yes .values)) (yes .choices)) (by-first u g) c i
+
+          pub as-was : mid ≡ old
+          as-was = nothing-first (undefinedTo n (valued (side .values))) (omega arith) .1
+
+          pub few-first : c .choices ≤ lim
+          few-first = subst (λ (x : Solved). countsOf x .choices ≤ lim) i (F .few)
+
+          pub other-side : (nay : Side) → Like (workOf nay) (steps.set p false noLevels (workOf side)) → nay .choices ≡ c .choices → (new : List ℕ) (second : Solved) → Sided t tb lim nay mid new second
+              → Chosen t tb lim side old new second
+          other-side nay N same new second G =
+              chosen side old new second false z
+              (λ u g.
+              (let f = fewer false nay N in
+              subst (λ (x : Tried). Told n lim x old new second)
+              (sym
+              (first-then u ∙ ap (λ (x : Tried). orOther x (λ m. tries B lim u (setAt p false (bare (side .values))) m)) (nothing-first u g .0)
+              ∙ tries-alike P n lim u (setAt p false (bare (side .values))) (bare (nay .values)) (c .choices) (alike false nay N 0)
+              ∙ ap (tries B lim u (bare (nay .values))) (sym same)))
+              (subst (λ (b : List ℕ). Told n lim (tries B lim u (bare (nay .values)) (nay .choices)) b new second) as-was (G .says u (omega arith)))))
+              (G .few)
+
+-- ---- the final test
+
+module _ (t : List ℤ) (tb : Table) (side : Side) (old : List ℕ) (c : Counts) (e : c ≡ plainCounts (side .choices)) where
+  abbrev X : Atoms
+  X = trueAtoms (tb .atoms) (valued (side .values))
+
+  -- what is told by the test's result
+  abbrev ends : Bool → Tried
+  ends f = byTest X (side .choices) (verdictOf f)
+
+  tests : (f : Bool) → founded (programOf t tb) (tb .atoms) X ≡ f → (new : List ℕ) (r : Solved) → ((lim : ℕ) → Told (tb .atoms) lim (ends f) old new r) → countsOf r .choices ≡ side .choices
+      → Tests t tb side old new r
+  tests f z new r T same = record { says = λ lim. subst (λ (b : Bool). Told (tb .atoms) lim (ends b) old new r) (sym z) (T lim); same = same }
+
+  -- the test opens no choice
+  none-opened : plainCounts (side .choices) ≡ plainCounts (0 + side .choices)
+  none-opened = let z : side .choices ≡ 0 + side .choices = omega arith in ap plainCounts z
+
+  pub passes-test : founded (programOf t tb) (tb .atoms) X ≡ true → (new : List ℕ) → new ≡ planWith (tb .atoms) X old → Tests t tb side old new (solved.Answer c)
+  passes-test z new w =
+      tests true z new (solved.Answer c) (λ lim. record { result = ap solved.Answer (e ∙ none-opened); plan = w }) (ap (λ (x : Counts). x .choices) e)
+
+  pub fails-test : founded (programOf t tb) (tb .atoms) X ≡ false → Tests t tb side old old (solved.Nothing c)
+  fails-test z = tests false z old (solved.Nothing c) (λ lim. record { result = ap solved.Nothing (e ∙ none-opened); plan = refl }) (ap (λ (x : Counts). x .choices) e)
 
 -- ---- the whole search
 
-says-by : (n : ℕ) (r : Tried) (p : Outcome) (lim : ℕ) → engine.Says (told n r) p → (p .result ≡ limit → p .choices ≡ lim) → Limited lim r → (p .result ≡ resultOf n r) × (p .choices ≡ r .choices)
-says-by n r p lim S reached L = at (r .ending) refl S
-  where
-    at : (e : Ending) → r .ending ≡ e → engine.Says (toldBy e (trueAtoms n (valued (r .values))) (r .choices)) p → (p .result ≡ resultBy e (trueAtoms n (valued (r .values)))) × (p .choices ≡ r .choices)
-    at Answer i s = s
-    at Nothing i s = s
-    at Limit i s = (s, reached s ∙ sym (L .reached i))
+says-by : (e : Tried) (p : Outcome) (lim : ℕ) → engine.Says e p → (p .result ≡ limit → p .choices ≡ lim) → (p .result ≡ resultBy e) × (p .choices ≡ choicesBy lim e)
+says-by (engine.plan X k) p lim S reached = S
+says-by (nothing k) p lim S reached = S
+says-by halted p lim S reached = (S, reached S)
 
-module _ (P : Program) (n lim : ℕ) (L : Laws (AnswerSet P) (base P n)) (r : Tried) (S : Sided P n lim (replicate 256 0) 0 r) where
-  from-start : told n r ≡ engine.engine (base P n) lim
+module _ (t : List ℤ) (tb : Table) (lim : ℕ) (L : Laws (AnswerSet (programOf t tb)) (base (programOf t tb) (tb .atoms))) (side : Side) (blank : side .values ≡ replicate 256 0) (none : side .choices ≡ 0)
+    (old new : List ℕ) (r : Solved) (S : Sided t tb lim side old new r) where
+  from-start : tries (base (programOf t tb) (tb .atoms)) lim (suc (tb .atoms)) (bare (side .values)) (side .choices) ≡ engine.engine (base (programOf t tb) (tb .atoms)) lim
   unfolding engine.engine
   from-start =
-      let h = undefined-top (valued (replicate 256 0)) n in
-      S .says (suc n) (omega arith)
-      ∙ tries-alike P n lim (suc n) (bare (replicate 256 0)) (start (base P n) .interpretation) 0 (λ q. ap (λ (a : ℕ → Cell). cellValue (a q)) (cells-blank 256 []))
+      ap (λ (k : ℕ). tries (base (programOf t tb) (tb .atoms)) lim (suc (tb .atoms)) (bare (side .values)) k) none
+      ∙ ap (λ (vs : List ℕ). tries (base (programOf t tb) (tb .atoms)) lim (suc (tb .atoms)) (bare vs) 0) blank
+      ∙ tries-alike (programOf t tb) (tb .atoms) lim (suc (tb .atoms)) (bare (replicate 256 0)) (start (base (programOf t tb) (tb .atoms)) .interpretation) 0
+      (λ q. ap (λ (a : ℕ → Cell). cellValue (a q)) (cells-blank 256 []))
 
-  pub found-outcome : (p : Outcome) → solve (base P n) plain lim ≡ some p → (p .result ≡ resultOf n r) × (p .choices ≡ r .choices)
+  pub found-outcome : (p : Outcome) → solve (base (programOf t tb) (tb .atoms)) plain lim ≡ some p
+      → (r ≡ solvedBy (p .result) (plainCounts (p .choices))) × (new ≡ planAfter (tb .atoms) (p .result) old)
   found-outcome p e =
-      says-by n r p lim (subst (λ (x : engine.Tried). engine.Says x p) (sym from-start) (engine-right (AnswerSet P) (base P n) L lim p e))
-      (limit-is-reached (AnswerSet P) (base P n) L lim plain p e) (S .limited)
+      let h = undefined-top (valued (side .values)) (tb .atoms) in
+      let T = S .says (suc (tb .atoms)) (omega arith) in
+      let x = tries (base (programOf t tb) (tb .atoms)) lim (suc (tb .atoms)) (bare (side .values)) (side .choices) in
+      let w = says-by x p lim
+      (subst (λ (y : Tried). engine.Says y p) (sym from-start) (engine-right (AnswerSet (programOf t tb)) (base (programOf t tb) (tb .atoms)) L lim p e))
+      (limit-is-reached (AnswerSet (programOf t tb)) (base (programOf t tb) (tb .atoms)) L lim plain p e) in (
+        T .result ∙ sym (ap (λ (y : Result). solvedBy y (plainCounts (p .choices))) (w .0) ∙ ap (λ (k : ℕ). solvedBy (resultBy x) (plainCounts k)) (w .1)),
+        T .plan ∙ sym (ap (λ (y : Result). planAfter (tb .atoms) y old) (w .0)),
+      )

@@ -25,8 +25,8 @@ use Rattle.promises.proofs.Kept.{counts-by}
 use Rattle.solver.specs.Solving.{Solving}
 use Rattle.plain.specs.Promise.{plainCounts, Plainly}
 
-module _ (t : List ℤ) (lim : ℕ) (old : List ℕ) where
-  unique-by : Decided t (Plan (length old)) → (new new′ : List ℕ) (r r′ : Solved) → Plainly t lim old new r → Plainly t lim old new′ r′ → (r ≡ r′) × (new ≡ new′)
+module _ (t : List ℤ) (ask : Ask) (old : List ℕ) where
+  unique-by : Decided t (Plan (length old)) → (new new′ : List ℕ) (r r′ : Solved) → Plainly t ask old new r → Plainly t ask old new′ r′ → (r ≡ r′) × (new ≡ new′)
   unique-by (inl (f, h)) new new′ r r′ a b =
       let e = a .refused (numberOf f) (placeOf f) .1 h in
       let i = b .refused (numberOf f) (placeOf f) .1 h in
@@ -39,7 +39,7 @@ module _ (t : List ℤ) (lim : ℕ) (old : List ℕ) where
         x .1 .plan ∙ ap (λ (p : Outcome). planAfter (c .atoms) (p .result) old) e ∙ sym (y .1 .plan),
       )
 
-  pub plainly-unique : (new new′ : List ℕ) (r r′ : Solved) → Plainly t lim old new r → Plainly t lim old new′ r′ → (r ≡ r′) × (new ≡ new′)
+  pub plainly-unique : (new new′ : List ℕ) (r r′ : Solved) → Plainly t ask old new r → Plainly t ask old new′ r′ → (r ≡ r′) × (new ≡ new′)
   plainly-unique = unique-by (decided t (Plan (length old)))
 
 -- ---- beside `solver::solve`
@@ -60,7 +60,7 @@ pub record Agree (r r′ : Solved) (new new′ : List ℕ) : Type 0 where
   pub refusal : (n i : ℕ) → (reportOf r ≡ refusalReport n i) ↔ (reportOf r′ ≡ refusalReport n i)
   pub choices : countsOf r′ .choices ≤ countsOf r .choices
 
-module _ (t : List ℤ) (lim : ℕ) (ask : Ask) (old new new′ : List ℕ) (r r′ : Solved) (a : Plainly t lim old new r) (b : Solving t ask old new′ r′) where
+module _ (t : List ℤ) (ask ask′ : Ask) (old new new′ : List ℕ) (r r′ : Solved) (a : Plainly t ask old new r) (b : Solving t ask′ old new′ r′) where
   -- both are refused exactly where 01's table says so
   refusals : (n i : ℕ) → (reportOf r ≡ refusalReport n i) ↔ (reportOf r′ ≡ refusalReport n i)
   refusals n i = (λ h. b .refused n i .1 (a .refused n i .0 h), λ h. a .refused n i .1 (b .refused n i .0 h))
@@ -81,7 +81,7 @@ module _ (t : List ℤ) (lim : ℕ) (ask : Ask) (old new new′ : List ℕ) (r r
       let p = x .0 in
       let y = b .searching c h in
       let o = y .0 in
-      let w = x .1 .alike (not-limit r (p .result) (plainCounts (p .choices)) (x .1 .result) n) (ask .limit) o (y .1 .jumping) (not-limit r′ (o .result) (counted o) (y .1 .result) m) in
+      let w = x .1 .alike (not-limit r (p .result) (plainCounts (p .choices)) (x .1 .result) n) (ask′ .limit) o (y .1 .jumping) (not-limit r′ (o .result) (counted o) (y .1 .result) m) in
       let k : countsOf r .choices ≡ p .choices = ap (λ (z : Solved). countsOf z .choices) (x .1 .result) ∙ ap (λ (z : Counts). z .choices) (counts-by (p .result) (plainCounts (p .choices))) in
       let l : countsOf r′ .choices ≡ o .choices = ap (λ (z : Solved). countsOf z .choices) (y .1 .result) ∙ ap (λ (z : Counts). z .choices) (counts-by (o .result) (counted o)) in
       let q = w .1 in

@@ -1,53 +1,71 @@
--- What the code of the plain engine hands back, in the terms of crate `search`. Definitions only; they need not be believed: the promise of `solve` does not speak of
--- them.
---   told             what a side of a choice holds, as crate `search` says it
---   Sided, Chosen    what `try_side` and `choose` hand back: what the engine of crate `search` says of the side, however far its fuel is above the undefined atoms
---   resultOf         the result that a side stands for
+-- What the code of the plain engine asks and hands back, in the terms of crate `search`. Definitions only; they need not be believed: the promise of `solve` does not
+-- speak of them.
+--   Told               r, and the later plan buffer, report what a side of a choice holds, as crate `search` says it
+--   Sided, Chosen      what `try_side` and `choose` hand back: what the engine of crate `search` says of the side, however far its fuel is above the undefined atoms
+--   Tests              what the final test hands back
+--   Ready, Testable    what they ask: the table's places and lists, no more choices than the limit, and room for the plan
 -- Assumes nothing.
 use Prim.Native.Nat.{ℕ, _≤_, _<_}
 use mathlib.Core.Path.{_≡_}
 use mathlib.Core.List.{List}
-use Rattle.meaning.specs.Aggregates.{Atoms}
-use Rattle.meaning.specs.Program.{Program}
-use Rattle.interpretation.specs.State.{lowest, trueAtoms}
+use lib.IntN.{ℤ}
+use lib.ListN.{length}
+use Rattle.interpretation.specs.State.{trueAtoms, AllDefined}
 use Rattle.interpretation.specs.View.{valued}
-use Rattle.passes.specs.Passes.{bare, undefinedTo}
-use Rattle.search.specs.Engine as engine
-use Rattle.search.specs.Engine.{tries, opens}
-use Rattle.search.specs.Base.{base}
+use Rattle.results.specs.declared.Solved.{Solved}
+use Rattle.results.specs.Results.{countsOf}
+use Rattle.layout.specs.declared.Table.{Table}
+use Rattle.layout.specs.Layout.{Laid, programOf}
+use Rattle.heads.specs.Heads.{Listed}
+use Rattle.search.specs.Engine.{Tried, plan, nothing, halted, byTest, goesOn, tries}
+use Rattle.search.specs.Base.{foundedTest, base}
 use Rattle.search.specs.Search.{Result, answer, noAnswer, limit}
-use Rattle.plain.specs.declared.Ending.{Ending}
-use Rattle.plain.specs.declared.Ending.the-variants.{Answer, Nothing, Limit}
-use Rattle.plain.specs.declared.Tried.{Tried}
+use Rattle.promises.specs.Promises.{solvedBy, planAfter}
+use Rattle.plain.specs.declared.passes.Side.{Side}
+use Rattle.plain.specs.Passes.{bare, verdictBy, undefinedTo}
+use Rattle.plain.specs.Promise.{plainCounts}
 
-abbrev pub toldBy : Ending → Atoms → ℕ → engine.Tried
-toldBy Answer X k = engine.plan X k
-toldBy Nothing X k = engine.nothing k
-toldBy Limit X k = engine.halted
+abbrev pub resultBy : Tried → Result
+resultBy (plan X k) = answer X
+resultBy (nothing k) = noAnswer
+resultBy halted = limit
 
-abbrev pub told : ℕ → Tried → engine.Tried
-told n r = toldBy (r .ending) (trueAtoms n (valued (r .values))) (r .choices)
+-- "at the limit, end with limit": as many choices as the limit allows are opened then
+abbrev pub choicesBy : ℕ → Tried → ℕ
+choicesBy lim (plan X k) = k
+choicesBy lim (nothing k) = k
+choicesBy lim halted = lim
 
--- "at the limit, end with limit": the choices are never more, and with that ending they are as many
-pub record Limited (lim : ℕ) (r : Tried) : Type 0 where
-  pub few : r .choices ≤ lim
-  pub reached : r .ending ≡ Limit → r .choices ≡ lim
+pub record Told (n lim : ℕ) (e : Tried) (old new : List ℕ) (r : Solved) : Type 0 where
+  pub result : r ≡ solvedBy (resultBy e) (plainCounts (choicesBy lim e))
+  pub plan : new ≡ planAfter n (resultBy e) old
 
-pub record Sided (P : Program) (n lim : ℕ) (values : List ℕ) (k : ℕ) (r : Tried) : Type 0 where
-  pub says : (u : ℕ) → undefinedTo n (valued values) < u → told n r ≡ tries (base P n) lim u (bare values) k
-  pub limited : Limited lim r
+module _ (t : List ℤ) (tb : Table) where
+  pub record Ready (lists : List ℕ) (lim : ℕ) (s : Side) (plan : List ℕ) : Type 0 where
+    pub laid : Laid t tb
+    pub listed : Listed t tb lists
+    pub few : s .choices ≤ lim
+    pub room : tb .atoms ≤ length plan
 
-pub record Chosen (P : Program) (n lim : ℕ) (values : List ℕ) (k : ℕ) (r : Tried) : Type 0 where
-  pub says : (u : ℕ) → undefinedTo n (valued values) ≤ u → told n r ≡ opens (base P n) lim (tries (base P n) lim u) (bare values) k (lowest (valued values) n)
-  pub limited : Limited lim r
+  pub record Testable (s : Side) (plan : List ℕ) : Type 0 where
+    pub laid : Laid t tb
+    pub defined : AllDefined (tb .atoms) (valued (s .values))
+    pub room : tb .atoms ≤ length plan
 
--- ---- the report
+  pub record Sided (lim : ℕ) (s : Side) (old new : List ℕ) (r : Solved) : Type 0 where
+    pub says : (u : ℕ) → undefinedTo (tb .atoms) (valued (s .values)) < u
+        → Told (tb .atoms) lim (tries (base (programOf t tb) (tb .atoms)) lim u (bare (s .values)) (s .choices)) old new r
+    pub few : countsOf r .choices ≤ lim
 
-abbrev pub resultBy : Ending → Atoms → Result
-resultBy Answer X = answer X
-resultBy Nothing X = noAnswer
-resultBy Limit X = limit
+  pub record Chosen (lim : ℕ) (s : Side) (old new : List ℕ) (r : Solved) : Type 0 where
+    pub says : (u : ℕ) → undefinedTo (tb .atoms) (valued (s .values)) ≤ u
+        → Told (tb .atoms) lim
+        (goesOn (base (programOf t tb) (tb .atoms)) lim (tries (base (programOf t tb) (tb .atoms)) lim u) (bare (s .values)) (s .choices) (verdictBy (s .conflict))) old new r
+    pub few : countsOf r .choices ≤ lim
 
--- the result that a side stands for
-abbrev pub resultOf : ℕ → Tried → Result
-resultOf n r = resultBy (r .ending) (trueAtoms n (valued (r .values)))
+  pub record Tests (s : Side) (old new : List ℕ) (r : Solved) : Type 0 where
+    pub says : (lim : ℕ)
+        → Told (tb .atoms) lim
+        (byTest (trueAtoms (tb .atoms) (valued (s .values))) (s .choices)
+        (foundedTest (programOf t tb) (tb .atoms) 0 (trueAtoms (tb .atoms) (valued (s .values))))) old new r
+    pub same : countsOf r .choices ≡ s .choices

@@ -12,6 +12,7 @@ use Prim.Native.Nat.{ℕ, _≤_}
 use lib.IntN.{ℤ}
 use lib.ListN.{length}
 use Rattle.meaning.specs.Answers.{AnswerSet}
+use Rattle.results.specs.declared.Ask.{Ask}
 use Rattle.results.specs.declared.Counts.{Counts}
 use Rattle.results.specs.declared.Solved.{Solved}
 use Rattle.results.specs.Results.{countsOf, reportOf, refusalReport}
@@ -38,11 +39,11 @@ pub record Searched (c : Contents) (lim : ℕ) (old new : List ℕ) (r : Solved)
   -- the count fits 32 bits
   pub bounded : countsOf r .choices ≤ lim
 
-pub record Plainly (t : List ℤ) (lim : ℕ) (old new : List ℕ) (r : Solved) : Type 0 where
+pub record Plainly (t : List ℤ) (ask : Ask) (old new : List ℕ) (r : Solved) : Type 0 where
   -- demand 1, "refusals included": refused with number n and place i, and counts 0, exactly where 01's table says so; then the whole buffer is as it was
   pub refused : (n i : ℕ) → (reportOf r ≡ refusalReport n i) ↔ Refused t (Plan (length old)) n i
   pub untouched : (n i : ℕ) → reportOf r ≡ refusalReport n i → new ≡ old
   -- demand 2 of every accepted table: an answer is an answer set and the first, none means none, only an answer writes
-  pub meaning : (c : Contents) → Accepted t (Plan (length old)) c → Meaning (c .atoms) (AnswerSet (program c)) lim old new r
+  pub meaning : (c : Contents) → Accepted t (Plan (length old)) c → Meaning (c .atoms) (AnswerSet (program c)) (ask .limit) old new r
   -- demand 3
-  pub searching : (c : Contents) → Accepted t (Plan (length old)) c → (p : Outcome) × Searched c lim old new r p
+  pub searching : (c : Contents) → Accepted t (Plan (length old)) c → (p : Outcome) × Searched c (ask .limit) old new r p

@@ -1,484 +1,271 @@
--- `plain::choose` and `plain::try_side` meet their contracts, in one proof: each calls the other. The measures are twice the number of undefined atoms, and one more for
--- `try_side`: a choice sets one that was undefined, and propagation leaves no more undefined than there were.
+-- `plain::choose` and `plain::try_side` meet their contracts, in one proof: each calls the other. `Proof/Places.antt` has the measures.
 -- Assumes nothing.
+mod Places
 use borrow.Author.Needs.{needs}
 use native.Mathlib.Omega.{arith}
-use mathlib.Core.Path.{_≡_, refl, sym, ap, _∙_}
+use mathlib.Core.Path.{_≡_, sym, ap, _∙_, subst}
 use mathlib.Core.Bool.{true, false}
-use Rattle.interpretation.specs.State.{lowest}
-use Rattle.interpretation.specs.View.{valued, found}
-use Rattle.layout.specs.Layout.{programOf}
+use mathlib.Core.List.{List}
+use lib.ListN.{length}
+use Prim.Native.Nat.{ℕ, _≤_}
+use Rattle.results.specs.Results.{kindOf}
 use Rattle.layout.proofs.Inside.{atoms-in}
-use Rattle.search.proofs.Parts.{lowest-none, lowest-some}
-use Rattle.passes.specs.Passes.{undefinedTo}
-use Rattle.plain.proofs.Sides.{conflict-side, no-more, settled-side, tested-all, at-limit, fewer, first-answers, first-halts, other-side}
-use Prim.Native.Nat.{ℕ, _+_, _*_, _≤_, _<_}
-use borrow.Fn.Kinds.{In}
-use borrow.Fn.PlainCycle.{Measures, is, falls, and}
+use Rattle.search.proofs.Parts.{lowest-none}
+use Rattle.plain.proofs.Sides.{no-more, tried, conflict-side, tested-all, at-limit, fewer, calm-still, first-ends, as-was, few-first, other-side}
 use Rattle.plain.proofs.choose.Reads as choose
-use Rattle.plain.proofs.choose.Kinds as choose-kinds
 use Rattle.plain.proofs.+choose+try_side.Lts-choose as choose-lts
 use Rattle.plain.proofs.try_side.Reads as try-side
-use Rattle.plain.proofs.try_side.Kinds as try-side-kinds
 use Rattle.plain.proofs.+choose+try_side.Lts-try_side as try-side-lts
-use Rattle.plain.proofs.ended.Reads as ended-reads
-use Rattle.turns.proofs.lowest_undefined.Reads as lowest-undefined-reads
-use Rattle.passes.proofs.propagate.Reads as propagate-reads
-use Rattle.plain.proofs.tested.Reads as tested-reads
-use Rattle.plain.proofs.with.Reads as with-reads
+use Rattle.plain.proofs.+choose+try_side.Proof.Places.{μ-choose, μ-try-side, choose-at, try-side-at, choose-calls, try-side-calls, none-left, chosen-atom, aim}
 use Rattle.plain.proofs.+choose+try_side.{statement}
 use Rattle.plain.proofs.+choose+try_side.Tie.{close}
 
-abbrev μ-choose : Measures 2 choose-kinds.ps ℕ
-μ-choose κs a = 2 * undefinedTo (a .1 .0 .atoms) (valued (a .1 .1 .1 .1 .0))
+-- ---- `choose`
 
-abbrev μ-try-side : Measures 2 try-side-kinds.ps ℕ
-μ-try-side κs a = 2 * undefinedTo (a .1 .0 .atoms) (valued (a .1 .1 .1 .1 .0)) + 1
+choose-counted-requires : (t : ℕ) → choose-lts.Need-counted-requires (choose-calls t) (choose-at t) choose.Post
+choose-counted-requires t c κs = search needs
 
-abbrev choose-at : ℕ → In 2 choose-kinds.ps
-choose-at t = and 2 choose-kinds.ps (is 2 choose-kinds.ps μ-choose t) choose.Pre
+choose-returns : (t : ℕ) → choose-lts.Need-returns (choose-calls t) (choose-at t) choose.Post
+choose-returns t c =
+    let b = c .before .before .before in
+    let a = b .args in
+    conflict-side (a .t .now) (a .tb) (a .limit) (a .t5) (c .before .if1 .taken) (b .pre .1 .few) (a .plan .now) (c .counted .result) (c .counted .ensures)
 
-abbrev choose-below : ℕ → In 2 choose-kinds.ps
-choose-below t = and 2 choose-kinds.ps (falls 2 choose-kinds.ps _<_ μ-choose t) choose.Pre
+choose-lowest-undefined-requires : (t : ℕ) → choose-lts.Need-lowest-undefined-requires (choose-calls t) (choose-at t) choose.Post
+choose-lowest-undefined-requires t c κs = c .before .before .before .before .pre .1 .laid .fewAtoms
 
-abbrev try-side-at : ℕ → In 2 try-side-kinds.ps
-try-side-at t = and 2 try-side-kinds.ps (is 2 try-side-kinds.ps μ-try-side t) try-side.Pre
-
-abbrev try-side-below : ℕ → In 2 try-side-kinds.ps
-try-side-below t =
-    and 2 try-side-kinds.ps (falls 2 try-side-kinds.ps _<_ μ-try-side t) try-side.Pre
-
-choose-lowest-undefined-requires : (t : ℕ) → choose-lts.Need-lowest-undefined-requires (
-  lowest-undefined-reads.Asked,
-  lowest-undefined-reads.Learnt,
-  tested-reads.Asked,
-  tested-reads.Learnt,
-  ended-reads.Asked,
-  ended-reads.Learnt,
-  with-reads.Asked,
-  with-reads.Learnt,
-  try-side-below t,
-  try-side.Post,
-) (choose-at t) choose.Post
-choose-lowest-undefined-requires t c κs = c .before .pre .1 .0 .fewAtoms
-
-choose-enum-known-lowest : (t : ℕ) → choose-lts.Need-enum-known-lowest (
-  lowest-undefined-reads.Asked,
-  lowest-undefined-reads.Learnt,
-  tested-reads.Asked,
-  tested-reads.Learnt,
-  ended-reads.Asked,
-  ended-reads.Learnt,
-  with-reads.Asked,
-  with-reads.Learnt,
-  try-side-below t,
-  try-side.Post,
-) (choose-at t) choose.Post
+choose-enum-known-lowest : (t : ℕ) → choose-lts.Need-enum-known-lowest (choose-calls t) (choose-at t) choose.Post
 choose-enum-known-lowest t c = search needs
 
-choose-enum-told : (t : ℕ) → choose-lts.Need-enum-told (
-  lowest-undefined-reads.Asked,
-  lowest-undefined-reads.Learnt,
-  tested-reads.Asked,
-  tested-reads.Learnt,
-  ended-reads.Asked,
-  ended-reads.Learnt,
-  with-reads.Asked,
-  with-reads.Learnt,
-  try-side-below t,
-  try-side.Post,
-) (choose-at t) choose.Post
+choose-enum-told : (t : ℕ) → choose-lts.Need-enum-told (choose-calls t) (choose-at t) choose.Post
 choose-enum-told t c = search needs
 
-choose-tested-requires : (t : ℕ) → choose-lts.Need-tested-requires (
-  lowest-undefined-reads.Asked,
-  lowest-undefined-reads.Learnt,
-  tested-reads.Asked,
-  tested-reads.Learnt,
-  ended-reads.Asked,
-  ended-reads.Learnt,
-  with-reads.Asked,
-  with-reads.Learnt,
-  try-side-below t,
-  try-side.Post,
-) (choose-at t) choose.Post
+choose-tested-requires : (t : ℕ) → choose-lts.Need-tested-requires (choose-calls t) (choose-at t) choose.Post
 choose-tested-requires t c κs =
-    let l = c .before .before in
-    let b = l .before .before in
-    (b .pre .1 .0, lowest-none (valued (b .args .t5)) (b .args .tb .atoms) (sym (l .lowest-undefined .ensures) ∙ ap found (c .enum-told .given .1)))
+    let R = c .before .before .before .before .before .before .before .before .pre .1 in
+    record { laid = R .laid; defined = lowest-none _ _ (none-left t (c .before)); room = R .room }
 
-choose-returns : (t : ℕ) → choose-lts.Need-returns (
-  lowest-undefined-reads.Asked,
-  lowest-undefined-reads.Learnt,
-  tested-reads.Asked,
-  tested-reads.Learnt,
-  ended-reads.Asked,
-  ended-reads.Learnt,
-  with-reads.Asked,
-  with-reads.Learnt,
-  try-side-below t,
-  try-side.Post,
-) (choose-at t) choose.Post
-choose-returns t c =
-    let l = c .before .before .before in
-    let b = l .before .before in
-    let a = b .args in
-    tested-all (programOf (a .t .now) (a .tb)) (a .tb .atoms) (a .limit) (a .t5) (a .choices) (sym (l .lowest-undefined .ensures) ∙ ap found (c .before .enum-told .given .1)) (b .pre .1 .2) (c .tested .result) (c .tested .ensures)
+choose-same-length : (t : ℕ) → choose-lts.Need-same-length (choose-calls t) (choose-at t) choose.Post
+choose-same-length t c = search needs
 
-choose-ended-requires : (t : ℕ) → choose-lts.Need-ended-requires (
-  lowest-undefined-reads.Asked,
-  lowest-undefined-reads.Learnt,
-  tested-reads.Asked,
-  tested-reads.Learnt,
-  ended-reads.Asked,
-  ended-reads.Learnt,
-  with-reads.Asked,
-  with-reads.Learnt,
-  try-side-below t,
-  try-side.Post,
-) (choose-at t) choose.Post
-choose-ended-requires t c κs = search needs
-
-choose-returns-2 : (t : ℕ) → choose-lts.Need-returns-2 (
-  lowest-undefined-reads.Asked,
-  lowest-undefined-reads.Learnt,
-  tested-reads.Asked,
-  tested-reads.Learnt,
-  ended-reads.Asked,
-  ended-reads.Learnt,
-  with-reads.Asked,
-  with-reads.Learnt,
-  try-side-below t,
-  try-side.Post,
-) (choose-at t) choose.Post
+choose-returns-2 : (t : ℕ) → choose-lts.Need-returns-2 (choose-calls t) (choose-at t) choose.Post
 choose-returns-2 t c =
-    let k = c .before .before .before in
-    let l = k .before .before in
-    let b = l .before .before in
+    let x = c .before .before in
+    let e = x .before .before in
+    let i = e .before .before .before .before .before in
+    let b = i .before .before in
     let a = b .args in
-    at-limit (programOf (a .t .now) (a .tb)) (a .tb .atoms) (a .limit) (a .t5) (a .choices) (k .lowest .given .0 .0) (sym (l .lowest-undefined .ensures) ∙ ap found (k .lowest .given .1))
-    (c .before .if1 .taken) (b .pre .1 .2) (c .ended .result) (c .ended .ensures)
+    tested-all (a .t .now) (a .tb) (a .limit) (a .t5) (i .if1 .left) (none-left t e) (b .pre .1 .few) (a .plan .now) _ (x .tested .result) (x .tested .ensures)
 
-choose-add-next : (t : ℕ) → choose-lts.Need-add-next (
-  lowest-undefined-reads.Asked,
-  lowest-undefined-reads.Learnt,
-  tested-reads.Asked,
-  tested-reads.Learnt,
-  ended-reads.Asked,
-  ended-reads.Learnt,
-  with-reads.Asked,
-  with-reads.Learnt,
-  try-side-below t,
-  try-side.Post,
-) (choose-at t) choose.Post
+choose-counted-requires-2 : (t : ℕ) → choose-lts.Need-counted-requires-2 (choose-calls t) (choose-at t) choose.Post
+choose-counted-requires-2 t c κs = search needs
+
+choose-returns-3 : (t : ℕ) → choose-lts.Need-returns-3 (choose-calls t) (choose-at t) choose.Post
+choose-returns-3 t c =
+    let k = c .before .before .before in
+    let i = k .before .before .before .before .before in
+    let b = i .before .before in
+    let a = b .args in
+    at-limit (a .t .now) (a .tb) (a .limit) (a .t5) (i .if1 .left) (k .lowest .given .0 .0) (chosen-atom t k) (c .before .if2 .taken) (b .pre .1 .few) (a .plan .now) (c .counted2 .result) (c .counted2 .ensures)
+
+choose-add-next : (t : ℕ) → choose-lts.Need-add-next (choose-calls t) (choose-at t) choose.Post
 choose-add-next t c =
-    let b = c .before .before .before .before .before .before in
-    let h = c .if1 .left in
-    let f = b .fits .limit in
+    let h = c .if2 .left in
+    let f = c .before .before .before .before .before .before .before .before .before .fits .limit in
     omega (arith, h, f)
 
-choose-with-requires : (t : ℕ) → choose-lts.Need-with-requires (
-  lowest-undefined-reads.Asked,
-  lowest-undefined-reads.Learnt,
-  tested-reads.Asked,
-  tested-reads.Learnt,
-  ended-reads.Asked,
-  ended-reads.Learnt,
-  with-reads.Asked,
-  with-reads.Learnt,
-  try-side-below t,
-  try-side.Post,
-) (choose-at t) choose.Post
-choose-with-requires t c κs =
-    let k = c .before .before in
-    let l = k .before .before in
-    let b = l .before .before in
-    let h = lowest-some (valued (b .args .t5)) (b .args .tb .atoms) (k .lowest .given .0 .0) (sym (l .lowest-undefined .ensures) ∙ ap found (k .lowest .given .1)) in
-    (h .0, omega (arith, h .1, b .pre .1 .0 .fewAtoms))
+choose-with-requires : (t : ℕ) → choose-lts.Need-with-requires (choose-calls t) (choose-at t) choose.Post
+choose-with-requires t c κs = aim t (c .before .before)
 
-choose-try-side-requires : (t : ℕ) → choose-lts.Need-try-side-requires (
-  lowest-undefined-reads.Asked,
-  lowest-undefined-reads.Learnt,
-  tested-reads.Asked,
-  tested-reads.Learnt,
-  ended-reads.Asked,
-  ended-reads.Learnt,
-  with-reads.Asked,
-  with-reads.Learnt,
-  try-side-below t,
-  try-side.Post,
-) (choose-at t) choose.Post
+choose-try-side-requires : (t : ℕ) → choose-lts.Need-try-side-requires (choose-calls t) (choose-at t) choose.Post
 choose-try-side-requires t c κs =
-    let k = c .before .before .before in
-    let l = k .before .before in
-    let b = l .before .before in
+    let w = c .before in
+    let k = w .before .before .before in
+    let i = k .before .before .before .before .before in
+    let b = i .before .before in
     let a = b .args in
+    let R = b .pre .1 in
     let e = b .pre .0 in
-    let h = c .before .if1 .left in
-    let f = fewer (programOf (a .t .now) (a .tb)) (a .tb .atoms) (a .limit) (a .t5) (a .choices) (k .lowest .given .0 .0) (sym (l .lowest-undefined .ensures) ∙ ap found (k .lowest .given .1)) true (c .with .result) (c .with .ensures) in
-    (omega (arith, e, f), (b .pre .1 .0, b .pre .1 .1, omega (arith, h)))
+    let h = w .before .if2 .left in
+    let n = w .with .ensures .1 in
+    let f = fewer (a .t .now) (a .tb) (a .limit) (a .t5) (i .if1 .left) (k .lowest .given .0 .0) (chosen-atom t k) true (w .with .result) (w .with .ensures .0) in (
+      omega (arith, e, f),
+      (
+        record { laid = R .laid; listed = R .listed; few = omega (arith, h, n); room = R .room },
+        calm-still (a .t .now) (a .tb) (a .limit) (a .t5) (i .if1 .left) (k .lowest .given .0 .0) (chosen-atom t k) true (w .with .result) (w .with .ensures .0),
+      ),
+    )
 
-choose-enum-told-2 : (t : ℕ) → choose-lts.Need-enum-told-2 (
-  lowest-undefined-reads.Asked,
-  lowest-undefined-reads.Learnt,
-  tested-reads.Asked,
-  tested-reads.Learnt,
-  ended-reads.Asked,
-  ended-reads.Learnt,
-  with-reads.Asked,
-  with-reads.Learnt,
-  try-side-below t,
-  try-side.Post,
-) (choose-at t) choose.Post
+choose-enum-known-first : (t : ℕ) → choose-lts.Need-enum-known-first (choose-calls t) (choose-at t) choose.Post
+choose-enum-known-first t c = search needs
+
+choose-with-requires-2 : (t : ℕ) → choose-lts.Need-with-requires-2 (choose-calls t) (choose-at t) choose.Post
+choose-with-requires-2 t c κs = aim t (c .before .before .before .before .before .before .before .before .before .before)
+
+choose-try-side-requires-2 : (t : ℕ) → choose-lts.Need-try-side-requires-2 (choose-calls t) (choose-at t) choose.Post
+choose-try-side-requires-2 t c κs =
+    let w = c .before in
+    let d = w .before in
+    let g = d .before .first .given in
+    let y = d .before .before .before .before .before in
+    let x = y .before .before in
+    let k = x .before .before .before in
+    let i = k .before .before .before .before .before in
+    let b = i .before .before in
+    let a = b .args in
+    let R = b .pre .1 in
+    let e = b .pre .0 in
+    let n = w .with2 .ensures .1 in
+    let f = fewer (a .t .now) (a .tb) (a .limit) (a .t5) (i .if1 .left) (k .lowest .given .0 .0) (chosen-atom t k) false (w .with2 .result) (w .with2 .ensures .0) in
+    let q = few-first (a .t .now) (a .tb) (a .limit) (a .t5) (i .if1 .left) (k .lowest .given .0 .0) (chosen-atom t k) (x .before .if2 .left) (x .with .result) (x .with .ensures .0) (x .with .ensures .1)
+    (a .plan .now) _ (y .try-side .result) (y .try-side .ensures) (g .0 .0) (g .1) in
+    let m = as-was (a .t .now) (a .tb) (a .limit) (a .t5) (i .if1 .left) (k .lowest .given .0 .0) (chosen-atom t k) (x .before .if2 .left) (x .with .result) (x .with .ensures .0) (x .with .ensures .1)
+    (a .plan .now) _ (y .try-side .result) (y .try-side .ensures) (g .0 .0) (g .1) in (
+      omega (arith, e, f),
+      (
+        record { laid = R .laid; listed = R .listed; few = omega (arith, n, q); room = subst (λ (l : List ℕ). a .tb .atoms ≤ length l) (sym m) (R .room) },
+        calm-still (a .t .now) (a .tb) (a .limit) (a .t5) (i .if1 .left) (k .lowest .given .0 .0) (chosen-atom t k) false (w .with2 .result) (w .with2 .ensures .0),
+      ),
+    )
+
+choose-enum-told-2 : (t : ℕ) → choose-lts.Need-enum-told-2 (choose-calls t) (choose-at t) choose.Post
 choose-enum-told-2 t c = search needs
 
-choose-enum-told-3 : (t : ℕ) → choose-lts.Need-enum-told-3 (
-  lowest-undefined-reads.Asked,
-  lowest-undefined-reads.Learnt,
-  tested-reads.Asked,
-  tested-reads.Learnt,
-  ended-reads.Asked,
-  ended-reads.Learnt,
-  with-reads.Asked,
-  with-reads.Learnt,
-  try-side-below t,
-  try-side.Post,
-) (choose-at t) choose.Post
+choose-enum-told-3 : (t : ℕ) → choose-lts.Need-enum-told-3 (choose-calls t) (choose-at t) choose.Post
 choose-enum-told-3 t c = search needs
 
-choose-enum-told-4 : (t : ℕ) → choose-lts.Need-enum-told-4 (
-  lowest-undefined-reads.Asked,
-  lowest-undefined-reads.Learnt,
-  tested-reads.Asked,
-  tested-reads.Learnt,
-  ended-reads.Asked,
-  ended-reads.Learnt,
-  with-reads.Asked,
-  with-reads.Learnt,
-  try-side-below t,
-  try-side.Post,
-) (choose-at t) choose.Post
+choose-enum-told-4 : (t : ℕ) → choose-lts.Need-enum-told-4 (choose-calls t) (choose-at t) choose.Post
 choose-enum-told-4 t c = search needs
 
-choose-with-requires-2 : (t : ℕ) → choose-lts.Need-with-requires-2 (
-  lowest-undefined-reads.Asked,
-  lowest-undefined-reads.Learnt,
-  tested-reads.Asked,
-  tested-reads.Learnt,
-  ended-reads.Asked,
-  ended-reads.Learnt,
-  with-reads.Asked,
-  with-reads.Learnt,
-  try-side-below t,
-  try-side.Post,
-) (choose-at t) choose.Post
-choose-with-requires-2 t c κs =
-    let k = c .before .before .before .before .before .before in
-    let l = k .before .before in
-    let b = l .before .before in
-    let h = lowest-some (valued (b .args .t5)) (b .args .tb .atoms) (k .lowest .given .0 .0) (sym (l .lowest-undefined .ensures) ∙ ap found (k .lowest .given .1)) in
-    (h .0, omega (arith, h .1, b .pre .1 .0 .fewAtoms))
+choose-same-length-2 : (t : ℕ) → choose-lts.Need-same-length-2 (choose-calls t) (choose-at t) choose.Post
+choose-same-length-2 t c = search needs
 
-choose-try-side-requires-2 : (t : ℕ) → choose-lts.Need-try-side-requires-2 (
-  lowest-undefined-reads.Asked,
-  lowest-undefined-reads.Learnt,
-  tested-reads.Asked,
-  tested-reads.Learnt,
-  ended-reads.Asked,
-  ended-reads.Learnt,
-  with-reads.Asked,
-  with-reads.Learnt,
-  try-side-below t,
-  try-side.Post,
-) (choose-at t) choose.Post
-choose-try-side-requires-2 t c κs =
-    let y = c .before .before .before in
-    let k = y .before .before .before .before in
-    let l = k .before .before in
-    let b = l .before .before in
-    let a = b .args in
-    let e = b .pre .0 in
-    let f = fewer (programOf (a .t .now) (a .tb)) (a .tb .atoms) (a .limit) (a .t5) (a .choices) (k .lowest .given .0 .0) (sym (l .lowest-undefined .ensures) ∙ ap found (k .lowest .given .1)) false (c .with2 .result) (c .with2 .ensures) in
-    (omega (arith, e, f), (b .pre .1 .0, b .pre .1 .1, y .try-side .ensures .limited .few))
-
-choose-returns-3 : (t : ℕ) → choose-lts.Need-returns-3 (
-  lowest-undefined-reads.Asked,
-  lowest-undefined-reads.Learnt,
-  tested-reads.Asked,
-  tested-reads.Learnt,
-  ended-reads.Asked,
-  ended-reads.Learnt,
-  with-reads.Asked,
-  with-reads.Learnt,
-  try-side-below t,
-  try-side.Post,
-) (choose-at t) choose.Post
-choose-returns-3 t c =
-    let y = c .before .before in
-    let x = y .before in
-    let k = x .before .before .before in
-    let l = k .before .before in
-    let b = l .before .before in
-    let a = b .args in
-    first-answers (programOf (a .t .now) (a .tb)) (a .tb .atoms) (a .limit) (a .t5) (a .choices) (k .lowest .given .0 .0) (sym (l .lowest-undefined .ensures) ∙ ap found (k .lowest .given .1))
-    (x .before .if1 .left) (x .with .result) (x .with .ensures) (y .try-side .result) (y .try-side .ensures) (c .enum-told2 .given .1)
-
-choose-returns-4 : (t : ℕ) → choose-lts.Need-returns-4 (
-  lowest-undefined-reads.Asked,
-  lowest-undefined-reads.Learnt,
-  tested-reads.Asked,
-  tested-reads.Learnt,
-  ended-reads.Asked,
-  ended-reads.Learnt,
-  with-reads.Asked,
-  with-reads.Learnt,
-  try-side-below t,
-  try-side.Post,
-) (choose-at t) choose.Post
+choose-returns-4 : (t : ℕ) → choose-lts.Need-returns-4 (choose-calls t) (choose-at t) choose.Post
 choose-returns-4 t c =
-    let y = c .before .before in
-    let x = y .before in
+    let s = c .before .before in
+    let w = s .before .before in
+    let d = w .before in
+    let g = d .before .first .given in
+    let y = d .before .before .before .before .before in
+    let x = y .before .before in
     let k = x .before .before .before in
-    let l = k .before .before in
-    let b = l .before .before in
-    let a = b .args in
-    first-halts (programOf (a .t .now) (a .tb)) (a .tb .atoms) (a .limit) (a .t5) (a .choices) (k .lowest .given .0 .0) (sym (l .lowest-undefined .ensures) ∙ ap found (k .lowest .given .1))
-    (x .before .if1 .left) (x .with .result) (x .with .ensures) (y .try-side .result) (y .try-side .ensures) (c .enum-told3 .given .1)
+    let i = k .before .before .before .before .before in
+    let a = i .before .before .args in
+    other-side (a .t .now) (a .tb) (a .limit) (a .t5) (i .if1 .left) (k .lowest .given .0 .0) (chosen-atom t k) (x .before .if2 .left) (x .with .result) (x .with .ensures .0) (x .with .ensures .1)
+    (a .plan .now) _ (y .try-side .result) (y .try-side .ensures) (g .0 .0) (g .1) (w .with2 .result) (w .with2 .ensures .0) (w .with2 .ensures .1) _ (s .try-side2 .result) (s .try-side2 .ensures)
 
-choose-returns-5 : (t : ℕ) → choose-lts.Need-returns-5 (
-  lowest-undefined-reads.Asked,
-  lowest-undefined-reads.Learnt,
-  tested-reads.Asked,
-  tested-reads.Learnt,
-  ended-reads.Asked,
-  ended-reads.Learnt,
-  with-reads.Asked,
-  with-reads.Learnt,
-  try-side-below t,
-  try-side.Post,
-) (choose-at t) choose.Post
+choose-same-length-3 : (t : ℕ) → choose-lts.Need-same-length-3 (choose-calls t) (choose-at t) choose.Post
+choose-same-length-3 t c = search needs
+
+choose-returns-5 : (t : ℕ) → choose-lts.Need-returns-5 (choose-calls t) (choose-at t) choose.Post
 choose-returns-5 t c =
-    let w = c .before in
-    let y = w .before .before .before in
-    let x = y .before in
+    let y = c .before .before .before .before in
+    let x = y .before .before in
     let k = x .before .before .before in
-    let l = k .before .before in
-    let b = l .before .before in
-    let a = b .args in
-    other-side (programOf (a .t .now) (a .tb)) (a .tb .atoms) (a .limit) (a .t5) (a .choices) (k .lowest .given .0 .0) (sym (l .lowest-undefined .ensures) ∙ ap found (k .lowest .given .1))
-    (x .before .if1 .left) (x .with .result) (x .with .ensures) (y .try-side .result) (y .try-side .ensures) (w .before .enum-told4 .given .1)
-    (w .with2 .result) (w .with2 .ensures) (c .try-side2 .result) (c .try-side2 .ensures)
+    let i = k .before .before .before .before .before in
+    let a = i .before .before .args in
+    let o = c .enum-told2 .given .1 in
+    first-ends (a .t .now) (a .tb) (a .limit) (a .t5) (i .if1 .left) (k .lowest .given .0 .0) (chosen-atom t k) (x .before .if2 .left) (x .with .result) (x .with .ensures .0) (x .with .ensures .1)
+    (a .plan .now) _ (y .try-side .result) (y .try-side .ensures) (λ e. (let h : _≡_ {A = ℕ} 0 1 = sym (ap kindOf o) ∙ e in omega arith))
 
-try-side-propagate-requires : (t : ℕ) → try-side-lts.Need-propagate-requires (
-  propagate-reads.Asked,
-  propagate-reads.Learnt,
-  ended-reads.Asked,
-  ended-reads.Learnt,
-  choose-below t,
-  choose.Post,
-) (try-side-at t) try-side.Post
-try-side-propagate-requires t c κs = (c .pre .1 .0, c .pre .1 .1)
+choose-same-length-4 : (t : ℕ) → choose-lts.Need-same-length-4 (choose-calls t) (choose-at t) choose.Post
+choose-same-length-4 t c = search needs
 
-try-side-ended-requires : (t : ℕ) → try-side-lts.Need-ended-requires (
-  propagate-reads.Asked,
-  propagate-reads.Learnt,
-  ended-reads.Asked,
-  ended-reads.Learnt,
-  choose-below t,
-  choose.Post,
-) (try-side-at t) try-side.Post
-try-side-ended-requires t c κs = search needs
+choose-returns-6 : (t : ℕ) → choose-lts.Need-returns-6 (choose-calls t) (choose-at t) choose.Post
+choose-returns-6 t c =
+    let y = c .before .before .before .before in
+    let x = y .before .before in
+    let k = x .before .before .before in
+    let i = k .before .before .before .before .before in
+    let a = i .before .before .args in
+    let o = c .enum-told3 .given .1 in
+    first-ends (a .t .now) (a .tb) (a .limit) (a .t5) (i .if1 .left) (k .lowest .given .0 .0) (chosen-atom t k) (x .before .if2 .left) (x .with .result) (x .with .ensures .0) (x .with .ensures .1)
+    (a .plan .now) _ (y .try-side .result) (y .try-side .ensures) (λ e. (let h : _≡_ {A = ℕ} 2 1 = sym (ap kindOf o) ∙ e in omega arith))
 
-try-side-returns : (t : ℕ) → try-side-lts.Need-returns (
-  propagate-reads.Asked,
-  propagate-reads.Learnt,
-  ended-reads.Asked,
-  ended-reads.Learnt,
-  choose-below t,
-  choose.Post,
-) (try-side-at t) try-side.Post
-try-side-returns t c =
-    let d = c .before .before .before in
-    let b = d .before in
-    let a = b .args in
-    conflict-side (programOf (a .t .now) (a .tb)) (a .tb .atoms) (a .limit) (a .values) (a .choices) (d .propagate .result) (d .propagate .ensures) (c .before .if1 .taken) (b .pre .1 .2) (c .ended .result) _ (c .ended .ensures)
+choose-same-length-5 : (t : ℕ) → choose-lts.Need-same-length-5 (choose-calls t) (choose-at t) choose.Post
+choose-same-length-5 t c = search needs
 
-try-side-choose-requires : (t : ℕ) → try-side-lts.Need-choose-requires (
-  propagate-reads.Asked,
-  propagate-reads.Learnt,
-  ended-reads.Asked,
-  ended-reads.Learnt,
-  choose-below t,
-  choose.Post,
-) (try-side-at t) try-side.Post
+choose-returns-7 : (t : ℕ) → choose-lts.Need-returns-7 (choose-calls t) (choose-at t) choose.Post
+choose-returns-7 t c =
+    let y = c .before .before .before .before in
+    let x = y .before .before in
+    let k = x .before .before .before in
+    let i = k .before .before .before .before .before in
+    let a = i .before .before .args in
+    let o = c .enum-told4 .given .1 in
+    first-ends (a .t .now) (a .tb) (a .limit) (a .t5) (i .if1 .left) (k .lowest .given .0 .0) (chosen-atom t k) (x .before .if2 .left) (x .with .result) (x .with .ensures .0) (x .with .ensures .1)
+    (a .plan .now) _ (y .try-side .result) (y .try-side .ensures) (λ e. (let h : _≡_ {A = ℕ} 3 1 = sym (ap kindOf o) ∙ e in omega arith))
+
+-- ---- `try_side`
+
+try-side-propagate-requires : (t : ℕ) → try-side-lts.Need-propagate-requires (try-side-calls t) (try-side-at t) try-side.Post
+try-side-propagate-requires t c κs = let R = c .before .pre .1 in (R .0 .laid, R .0 .listed, R .1)
+
+try-side-choose-requires : (t : ℕ) → try-side-lts.Need-choose-requires (try-side-calls t) (try-side-at t) try-side.Post
 try-side-choose-requires t c κs =
-    let d = c .before .before in
-    let b = d .before in
+    let d = c .before in
+    let b = d .before .before in
     let a = b .args in
+    let R = b .pre .1 in
     let e = b .pre .0 in
-    let h = no-more (programOf (a .t .now) (a .tb)) (a .tb .atoms) (a .limit) (a .values) (a .choices) (d .propagate .result) (d .propagate .ensures) (atoms-in (a .t .now) (a .tb) (b .pre .1 .0)) in
-    (omega (arith, e, h), b .pre .1)
+    let n = d .propagate .ensures .kept in
+    let l = R .0 .few in
+    let h = no-more (a .t .now) (a .tb) (a .limit) (a .side) (d .propagate .result) (R .1) (d .propagate .ensures) (atoms-in (a .t .now) (a .tb) (R .0 .laid)) in
+    (omega (arith, e, h), record { laid = R .0 .laid; listed = R .0 .listed; few = omega (arith, n, l); room = R .0 .room })
 
-try-side-returns-2 : (t : ℕ) → try-side-lts.Need-returns-2 (
-  propagate-reads.Asked,
-  propagate-reads.Learnt,
-  ended-reads.Asked,
-  ended-reads.Learnt,
-  choose-below t,
-  choose.Post,
-) (try-side-at t) try-side.Post
-try-side-returns-2 t c =
-    let d = c .before .before .before in
-    let b = d .before in
+try-side-same-length : (t : ℕ) → try-side-lts.Need-same-length (try-side-calls t) (try-side-at t) try-side.Post
+try-side-same-length t c = search needs
+
+try-side-returns : (t : ℕ) → try-side-lts.Need-returns (try-side-calls t) (try-side-at t) try-side.Post
+try-side-returns t c =
+    let x = c .before .before in
+    let d = x .before .before in
+    let b = d .before .before in
     let a = b .args in
-    settled-side (programOf (a .t .now) (a .tb)) (a .tb .atoms) (a .limit) (a .values) (a .choices) (d .propagate .result) (d .propagate .ensures) (atoms-in (a .t .now) (a .tb) (b .pre .1 .0)) (c .before .if1 .left)
-    (c .choose .result) (c .choose .ensures)
+    let R = b .pre .1 in
+    tried (a .t .now) (a .tb) (a .limit) (a .side) (d .propagate .result) (R .1) (d .propagate .ensures) (atoms-in (a .t .now) (a .tb) (R .0 .laid)) (a .plan .now) _ (x .choose .result) (x .choose .ensures)
 
 pub +choose+try-side-spec : {M : Type 1} → statement M
-+choose+try-side-spec = close μ-choose μ-try-side (λ t. choose-lts.spec (
-  lowest-undefined-reads.Asked,
-  lowest-undefined-reads.Learnt,
-  tested-reads.Asked,
-  tested-reads.Learnt,
-  ended-reads.Asked,
-  ended-reads.Learnt,
-  with-reads.Asked,
-  with-reads.Learnt,
-  try-side-below t,
-  try-side.Post,
-)
++choose+try-side-spec =
+    close
+    μ-choose
+    μ-try-side
+    (λ t. choose-lts.spec
+    (choose-calls t)
     (choose-at t)
     choose.Post
+    (choose-counted-requires t)
+    (choose-returns t)
     (choose-lowest-undefined-requires t)
     (choose-enum-known-lowest t)
     (choose-enum-told t)
     (choose-tested-requires t)
-    (choose-returns t)
-    (choose-ended-requires t)
+    (choose-same-length t)
     (choose-returns-2 t)
+    (choose-counted-requires-2 t)
+    (choose-returns-3 t)
     (choose-add-next t)
     (choose-with-requires t)
     (choose-try-side-requires t)
+    (choose-enum-known-first t)
+    (choose-with-requires-2 t)
+    (choose-try-side-requires-2 t)
     (choose-enum-told-2 t)
     (choose-enum-told-3 t)
     (choose-enum-told-4 t)
-    (choose-with-requires-2 t)
-    (choose-try-side-requires-2 t)
-    (choose-returns-3 t)
+    (choose-same-length-2 t)
     (choose-returns-4 t)
-    (choose-returns-5 t))
-    λ t. try-side-lts.spec (
-      propagate-reads.Asked,
-      propagate-reads.Learnt,
-      ended-reads.Asked,
-      ended-reads.Learnt,
-      choose-below t,
-      choose.Post,
-    )
+    (choose-same-length-3 t)
+    (choose-returns-5 t)
+    (choose-same-length-4 t)
+    (choose-returns-6 t)
+    (choose-same-length-5 t)
+    (choose-returns-7 t))
+    λ t. try-side-lts.spec
+    (try-side-calls t)
     (try-side-at t)
     try-side.Post
     (try-side-propagate-requires t)
-    (try-side-ended-requires t)
-    (try-side-returns t)
     (try-side-choose-requires t)
-    (try-side-returns-2 t)
+    (try-side-same-length t)
+    (try-side-returns t)

@@ -4,13 +4,17 @@ use mathlib.Core.Path.{_≡_, refl, sym, ap, _∙_, subst}
 use mathlib.Core.List.{List}
 use Prim.Native.Nat.{ℕ, _≤_}
 use native.Mathlib.Omega.{arith}
-use lib.ListN.{length}
+use mathlib.Core.Bool.{false}
+use lib.ListN.{length, replicate}
 use Rattle.results.specs.declared.Solved.the-variants as solved
 use Rattle.table.specs.Contents.{Contents}
 use Rattle.judging.specs.declared.Buffer.the-variants.{Plan}
 use Rattle.judging.specs.Refusals.{Accepted}
 use Rattle.judging.specs.Judging.{Placed}
 use Rattle.judging.proofs.Judged.{plan-wide, judged-refused, judged-taken}
+use Rattle.layout.proofs.Inside.{atoms-in}
+use Rattle.plain.specs.declared.passes.Side.{Side}
+use Rattle.plain.proofs.Sides.{tried}
 use Rattle.plain.proofs.Entry.{plainly-refused, plainly-found}
 use Rattle.plain.proofs.solve.Statement.{statement}
 use Rattle.plain.proofs.solve.Tie as tie
@@ -38,36 +42,45 @@ slice-aggregate-fill c = search needs
 fill-requires : tie.Need-fill-requires
 fill-requires c κs = (taken (c .before) .2 .laid, search needs)
 
-try-side-requires : tie.Need-try-side-requires
-try-side-requires c κs = (taken (c .before .before .before .before) .2 .laid, c .before .before .fill .ensures, omega arith)
+propagate-requires : tie.Need-propagate-requires
+propagate-requires c κs = let l = c .before .before in (taken (l .before .before) .2 .laid, l .fill .ensures, refl)
 
-report-requires : tie.Need-report-requires
-report-requires c κs =
-    let x = taken (c .before .before .before .before .before .before) in
+choose-requires : tie.Need-choose-requires
+choose-requires c κs =
+    let g = c .before .before in
+    let l = g .before .before .before in
+    let x = taken (l .before .before) in
     let f = x .2 .laid .fewAtoms in
     let w = plan-wide _ (x .1 .buffer) in
-    (f, omega arith)
+    let n = g .propagate .ensures .kept in
+    record { laid = x .2 .laid; listed = l .fill .ensures; few = omega (arith, n); room = omega (arith, f, w) }
 
 returns : tie.Need-returns
 returns c =
     let f = c .before .fault .given in
     let j = c .before .before .before in
     let a = j .before .before .args in
-    plainly-refused (a .words .now) (a .limit) (a .plan .now) (a .plan .now) (solved.Refused (f .0 .0)) (f .0 .0)
+    plainly-refused (a .words .now) (a .ask) (a .plan .now) (a .plan .now) (solved.Refused (f .0 .0)) (f .0 .0)
     (judged-refused (a .words .now) (Plan (length (a .plan .now))) (j .judge .result) (f .0 .0) (j .judge .ensures) (f .1)) refl refl
 
 same-length : tie.Need-same-length
 same-length c = search needs
 
+-- nothing is defined at the start
+abbrev start : Side
+start = record { values = replicate 256 0; choices = 0; changed = false; conflict = false }
+
 returns-2 : tie.Need-returns-2
 returns-2 c =
     let r = c .before .before in
-    let s = r .before .before in
-    let b = s .before .before .before .before .before in
+    let g = r .before .before .before in
+    let b = g .before .before .before .before .before in
     let j = b .before .before .before in
     let a = j .before .before .args in
+    let tb = j .judge .result .table in
     let x = taken b in
-    plainly-found (a .words .now) (a .limit) (a .plan .now) _ (r .report .result) (x .0) (x .1) (j .judge .result .table) (x .2) (s .try-side .result) (s .try-side .ensures) (r .report .ensures .0) (r .report .ensures .1)
+    plainly-found (a .words .now) (a .ask) (a .plan .now) _ (r .choose .result) (x .0) (x .1) tb (x .2) start refl refl
+    (tried (a .words .now) tb (a .ask .limit) start (g .propagate .result) refl (g .propagate .ensures) (atoms-in (a .words .now) tb (x .2 .laid)) (a .plan .now) _ (r .choose .result) (r .choose .ensures))
 
 pub solve-spec : {M : Type 1} → statement M
-solve-spec = tie.close (tie.spec judge-requires enum-known-fault enum-told slice-aggregate-fill fill-requires try-side-requires report-requires returns same-length returns-2)
+solve-spec = tie.close (tie.spec judge-requires enum-known-fault enum-told slice-aggregate-fill fill-requires propagate-requires choose-requires returns same-length returns-2)

@@ -1,4 +1,4 @@
--- `passes::rule_steps` meets its contract. The invariant of its loop: what the rules from `at` on make of the pass is like what all rules make of the first
+-- `plain::passes::rule_steps` meets its contract. The invariant of its loop: what the rules from `at` on make of the pass is like what all rules make of the first
 -- one. The measure is the number of rules to come. A conflict ends the code's loop at once, and the defined steps do nothing after it.
 -- Assumes nothing.
 use borrow.Author.Needs.{needs}
@@ -13,24 +13,24 @@ use Rattle.layout.proofs.Rounds.{lies-on}
 use Rattle.layout.proofs.Inside.{rule-in}
 use Rattle.steps.specs.Steps.{rulePass, stepRule, ruleReason}
 use Rattle.rules.proofs.Rule.{demand-open}
-use Rattle.passes.specs.declared.Pass.{Pass}
-use Rattle.passes.specs.Passes.{Like, workOf}
-use Rattle.passes.proofs.Liking.{like-refl}
-use Rattle.passes.proofs.Stepping.{Stepped, moved, refuted-like, rule-nothing, rule-refutes, rule-sets}
-use Rattle.passes.proofs.Walking.{rules-next, rules-end, rules-over}
-use Rattle.passes.proofs.rule_steps.Statement.{statement}
-use Rattle.passes.proofs.rule_steps.Tie as tie
+use Rattle.plain.specs.declared.passes.Side.{Side}
+use Rattle.plain.specs.Passes.{Like, workOf}
+use Rattle.plain.proofs.Liking.{like-refl}
+use Rattle.plain.proofs.Stepping.{Stepped, moved, refuted-like, rule-nothing, rule-refutes, rule-sets}
+use Rattle.plain.proofs.Walking.{rules-next, rules-end, rules-over}
+use Rattle.plain.proofs.passes.rule_steps.Statement.{statement}
+use Rattle.plain.proofs.passes.rule_steps.Tie as tie
 
 abbrev Inv-loop : tie.InvT-loop
-Inv-loop t tb pass₀ at₀ left₀ pass at left =
-    RulesLie (tb .atoms) (tb .aggregates) t at left × (pass .conflict ≡ false)
-    × Like (rulePass (rulesFrom t at left) (workOf pass)) (rulePass (programOf t tb) (workOf pass₀))
+Inv-loop t tb side₀ at₀ left₀ side at left =
+    RulesLie (tb .atoms) (tb .aggregates) t at left × (side .conflict ≡ false)
+    × Like (rulePass (rulesFrom t at left) (workOf side)) (rulePass (programOf t tb) (workOf side₀)) × (side .choices ≡ side₀ .choices)
 
 abbrev μ-loop : tie.MeasureT-loop
-μ-loop t tb pass₀ at₀ left₀ pass at left = left
+μ-loop t tb side₀ at₀ left₀ side at left = left
 
 loop-holds : tie.Need-loop-holds Inv-loop μ-loop
-loop-holds c = (c .pre .0 .rulesLie, c .pre .1, like-refl _)
+loop-holds c = (c .pre .0 .rulesLie, c .pre .1, like-refl _, refl)
 
 -- ---- the rule at hand
 
@@ -61,7 +61,7 @@ aim c =
     let b = i .before in
     let a = b .before .args in
     let L = b .before .pre .0 in
-    let h = demand-open (a .tb .atoms) (valued (b .loop .pass .values)) (ruleAt (a .t .now) (b .loop .at)) (c .step .given .0 .0) (c .step .given .0 .1 .0)
+    let h = demand-open (a .tb .atoms) (valued (b .loop .side .values)) (ruleAt (a .t .now) (b .loop .at)) (c .step .given .0 .0) (c .step .given .0 .1 .0)
     (rule-in (a .t .now) (a .tb) L (b .loop .at) (lies i .0)) (sym (d .demand .ensures) ∙ c .step .given .1) .1 in
     (h .0, omega (arith, h .1, L .fewAtoms))
 
@@ -75,22 +75,26 @@ returns c =
     let i = d .before .before .before in
     let b = i .before in
     let t = b .before .args .t .now in
-    let s = b .loop .pass in
+    let s = b .loop .side in
     let free = b .loop .inv .1 in
     let rule = ruleAt t (b .loop .at) in
-    rules-end t (b .loop .at) (b .loop .left) (workOf s) _ (b .loop .inv .2) (i .loop-test .taken) (record { values = s .values; changed = s .changed; conflict = true }) (ruleReason rule (workOf s))
-    (rule-refutes s free rule (sym (d .demand .ensures) ∙ c .enum-told2 .given .1)) (refuted-like s free (ruleReason rule (workOf s)))
+    record {
+      like =
+          rules-end t (b .loop .at) (b .loop .left) (workOf s) _ (b .loop .inv .2) (i .loop-test .taken) (record { values = s .values; choices = s .choices; changed = s .changed; conflict = true }) (ruleReason rule (workOf s))
+          (rule-refutes s free rule (sym (d .demand .ensures) ∙ c .enum-told2 .given .1)) (refuted-like s free (ruleReason rule (workOf s)));
+      kept = b .loop .inv .3;
+    }
 
 -- ---- what the rule makes of the pass
 
-abbrev Came : tie.After-demand Inv-loop μ-loop → Pass → Type 0
-Came d s = let b = d .before .before .before .before in Stepped s (stepRule (ruleAt (b .before .args .t .now) (b .loop .at)) (workOf (b .loop .pass)))
+abbrev Came : tie.After-demand Inv-loop μ-loop → Side → Type 0
+Came d s = let b = d .before .before .before .before in Stepped (b .loop .side) s (stepRule (ruleAt (b .before .args .t .now) (b .loop .at)) (workOf (b .loop .side)))
 
-came : (c : tie.At-match-came Inv-loop μ-loop) → Came (c .before) (c .match .pass)
+came : (c : tie.At-match-came Inv-loop μ-loop) → Came (c .before) (c .match .side)
 came c =
     let d = c .before in
     let b = d .before .before .before .before in
-    let s = b .loop .pass in
+    let s = b .loop .side in
     let free = b .loop .inv .1 in
     let rule = ruleAt (b .before .args .t .now) (b .loop .at) in
     ⊎-elim
@@ -117,12 +121,15 @@ loop-again c =
     let e = c .past-rule .ensures in (
       subst (λ (j : ℕ). RulesLie (a .tb .atoms) (a .tb .aggregates) t j (b .loop .left - 1)) (sym e) (lies i .1),
       x .free,
-      subst (λ (j : ℕ). Like (rulePass (rulesFrom t j (b .loop .left - 1)) (workOf (c .before .match .pass))) (rulePass (programOf t (a .tb)) (workOf (a .t3)))) (sym e)
-          (rules-next t (b .loop .at) (b .loop .left) (workOf (b .loop .pass)) _ (b .loop .inv .2) (i .loop-test .taken) (c .before .match .pass) (x .like)),
+      subst (λ (j : ℕ). Like (rulePass (rulesFrom t j (b .loop .left - 1)) (workOf (c .before .match .side))) (rulePass (programOf t (a .tb)) (workOf (a .t3)))) (sym e)
+          (rules-next t (b .loop .at) (b .loop .left) (workOf (b .loop .side)) _ (b .loop .inv .2) (i .loop-test .taken) (c .before .match .side) (x .like)),
+      x .kept ∙ b .loop .inv .3,
     )
 
 returns-2 : tie.Need-returns-2 Inv-loop μ-loop
-returns-2 c = let b = c .before in rules-over (b .before .args .t .now) (b .loop .at) (b .loop .left) (workOf (b .loop .pass)) _ (b .loop .inv .2) (c .loop-test .left)
+returns-2 c =
+    let b = c .before in
+    record { like = rules-over (b .before .args .t .now) (b .loop .at) (b .loop .left) (workOf (b .loop .side)) _ (b .loop .inv .2) (c .loop-test .left); kept = b .loop .inv .3 }
 
 pub rule-steps-spec : {M : Type 1} → statement M
 rule-steps-spec =

@@ -1,4 +1,4 @@
--- `passes::forced_by` meets its contract. The invariant of its loop: what step e makes of the pass at hand is like what it makes of the first one. The measure
+-- `plain::passes::forced_by` meets its contract. The invariant of its loop: what step e makes of the pass at hand is like what it makes of the first one. The measure
 -- is the number of undefined atoms.
 -- Assumes nothing.
 use borrow.Author.Needs.{needs}
@@ -15,20 +15,20 @@ use Rattle.layout.specs.Layout.{ruleAt}
 use Rattle.layout.proofs.Inside.{rule-in}
 use Rattle.steps.specs.Steps.{Work, set, stepE}
 use Rattle.support.proofs.Forcing.{forced-nothing, forced-set, forced-open}
-use Rattle.passes.specs.Passes.{Like, workOf, undefinedTo}
-use Rattle.passes.proofs.Liking.{like-refl, like-then, like-e}
-use Rattle.passes.proofs.Undefined.{undefined-alike, undefined-put}
-use Rattle.passes.proofs.forced_by.Statement.{statement}
-use Rattle.passes.proofs.forced_by.Tie as tie
+use Rattle.plain.specs.Passes.{Like, workOf, undefinedTo}
+use Rattle.plain.proofs.Liking.{like-refl, like-then, like-e}
+use Rattle.plain.proofs.Undefined.{undefined-alike, undefined-put}
+use Rattle.plain.proofs.passes.forced_by.Statement.{statement}
+use Rattle.plain.proofs.passes.forced_by.Tie as tie
 
 abbrev Inv-loop : tie.InvT-loop
-Inv-loop t tb at pass₀ pass = Like (stepE (some (ruleAt t at)) noLevels (workOf pass)) (stepE (some (ruleAt t at)) noLevels (workOf pass₀))
+Inv-loop t tb at side₀ side = Like (stepE (some (ruleAt t at)) noLevels (workOf side)) (stepE (some (ruleAt t at)) noLevels (workOf side₀)) × (side .choices ≡ side₀ .choices)
 
 abbrev μ-loop : tie.MeasureT-loop
-μ-loop t tb at pass₀ pass = undefinedTo (tb .atoms) (valued (pass .values))
+μ-loop t tb at side₀ side = undefinedTo (tb .atoms) (valued (side .values))
 
 loop-holds : tie.Need-loop-holds Inv-loop μ-loop
-loop-holds c = like-refl _
+loop-holds c = (like-refl _, refl)
 
 forced-requires : tie.Need-forced-requires Inv-loop μ-loop
 forced-requires c κs = c .before .before .before .pre
@@ -42,9 +42,12 @@ returns c =
     let d = c .before .before in
     let b = d .before .before .before in
     let a = b .before .args in
-    let w = workOf (b .loop .pass) in
+    let w = workOf (b .loop .side) in
     let r = ruleAt (a .t .now) (a .at) in
-    subst (λ (u : Work). Like u (stepE (some r) noLevels (workOf (a .t4)))) (forced-nothing r noLevels w (sym (d .forced .ensures) ∙ c .enum-told .given .1)) (b .loop .inv)
+    record {
+      like = subst (λ (u : Work). Like u (stepE (some r) noLevels (workOf (a .t4)))) (forced-nothing r noLevels w (sym (d .forced .ensures) ∙ c .enum-told .given .1)) (b .loop .inv .0);
+      kept = b .loop .inv .1;
+    }
 
 enum-known-next : tie.Need-enum-known-next Inv-loop μ-loop
 enum-known-next c = search needs
@@ -53,13 +56,13 @@ enum-known-next c = search needs
 
 -- it is one of 1 .. N, and undefined
 aim : (c : tie.After-next Inv-loop μ-loop) → let b = c .before .before .before .before .before in
-    In (b .before .args .tb .atoms) (c .next .given .0 .0) × (valued (b .loop .pass .values) (c .next .given .0 .0) ≡ undefined)
+    In (b .before .args .tb .atoms) (c .next .given .0 .0) × (valued (b .loop .side .values) (c .next .given .0 .0) ≡ undefined)
 aim c =
     let d = c .before .before in
     let b = d .before .before .before in
     let a = b .before .args in
     let p = b .before .pre in
-    forced-open (ruleAt (a .t .now) (a .at)) (a .tb .atoms) (rule-in (a .t .now) (a .tb) (p .0) (a .at) (p .1)) (valued (b .loop .pass .values)) (c .next .given .0 .0) (c .next .given .0 .1 .0)
+    forced-open (ruleAt (a .t .now) (a .at)) (a .tb .atoms) (rule-in (a .t .now) (a .tb) (p .0) (a .at) (p .1)) (valued (b .loop .side .values)) (c .next .given .0 .0) (c .next .given .0 .1 .0)
     (sym (d .forced .ensures) ∙ c .next .given .1)
 
 set-requires : tie.Need-set-requires Inv-loop μ-loop
@@ -76,8 +79,8 @@ loop-less c =
     let h = aim n in
     let q = n .next .given .0 .0 in
     let v = n .next .given .0 .1 .0 in
-    let vs = b .loop .pass .values in
-    let e = undefined-alike (valued (c .set .result .values)) (put q (defined v 0) (valued vs)) (c .set .ensures .cells) N in
+    let vs = b .loop .side .values in
+    let e = undefined-alike (valued (c .set .result .values)) (put q (defined v 0) (valued vs)) (c .set .ensures .like .cells) N in
     let l = undefined-put N (valued vs) q v 0 (h .0) (h .1) in
     omega (arith, e, l)
 
@@ -88,11 +91,13 @@ loop-again c =
     let b = d .before .before .before in
     let a = b .before .args in
     let r = ruleAt (a .t .now) (a .at) in
-    let w = workOf (b .loop .pass) in
+    let w = workOf (b .loop .side) in
     let q = n .next .given .0 .0 in
-    let v = n .next .given .0 .1 .0 in
-    like-then (like-e (some r) noLevels noLevels (c .set .ensures))
-    (subst (λ (u : Work). Like u (stepE (some r) noLevels (workOf (a .t4)))) (forced-set r noLevels w q v (sym (d .forced .ensures) ∙ n .next .given .1)) (b .loop .inv))
+    let v = n .next .given .0 .1 .0 in (
+      like-then (like-e (some r) noLevels noLevels (c .set .ensures .like))
+          (subst (λ (u : Work). Like u (stepE (some r) noLevels (workOf (a .t4)))) (forced-set r noLevels w q v (sym (d .forced .ensures) ∙ n .next .given .1)) (b .loop .inv .0)),
+      c .set .ensures .kept ∙ b .loop .inv .1,
+    )
 
 pub forced-by-spec : {M : Type 1} → statement M
 forced-by-spec =

@@ -10,9 +10,9 @@ use Rattle.layout.specs.Layout.{pastRule, ruleAt, rulesFrom}
 use Rattle.layout.proofs.Rounds.{rules-on, rules-none}
 use Rattle.steps.specs.Steps.{Work, refuted, ifSettled, stepRule, stepAtom, rulePass, atomPass, unchanged, pass, passes}
 use Rattle.propagation.proofs.Passing.{rules-conflict, atoms-conflict, atoms-on, atoms-none, goOn, passes-on}
-use Rattle.passes.specs.declared.Pass.{Pass}
-use Rattle.passes.specs.Passes.{Like, verdictBy, workOf}
-use Rattle.passes.proofs.Liking.{like-then, like-rules, like-atoms, like-on}
+use Rattle.plain.specs.declared.passes.Side.{Side}
+use Rattle.plain.specs.Passes.{Like, verdictBy, workOf}
+use Rattle.plain.proofs.Liking.{like-then, like-rules, like-atoms, like-on}
 
 -- ---- the rules from `at` on
 
@@ -20,10 +20,10 @@ module _ (t : List ℤ) (at left : ℕ) (w x : Work) (S : Like (rulePass (rulesF
   abbrev later : Program
   later = rulesFrom t (pastRule t at) (left - 1)
 
-  pub rules-next : 0 < left → (s′ : Pass) → Like (workOf s′) (stepRule (ruleAt t at) w) → Like (rulePass (rulesFrom t (pastRule t at) (left - 1)) (workOf s′)) x
+  pub rules-next : 0 < left → (s′ : Side) → Like (workOf s′) (stepRule (ruleAt t at) w) → Like (rulePass (rulesFrom t (pastRule t at) (left - 1)) (workOf s′)) x
   rules-next h s′ g = like-then (like-rules later g) (subst (λ (P : Program). Like (rulePass P w) x) (rules-on t at left h) S)
 
-  pub rules-end : 0 < left → (s′ : Pass) (C : Levels) → stepRule (ruleAt t at) w ≡ refuted C w → Like (workOf s′) (refuted C w) → Like (workOf s′) x
+  pub rules-end : 0 < left → (s′ : Side) (C : Levels) → stepRule (ruleAt t at) w ≡ refuted C w → Like (workOf s′) (refuted C w) → Like (workOf s′) x
   rules-end h s′ C e g =
       let z : rulePass (rulesFrom t at left) w ≡ refuted C w =
       ap (λ (P : Program). rulePass P w) (rules-on t at left h) ∙ ap (rulePass later) e ∙ rules-conflict later (refuted C w) C refl in
@@ -35,10 +35,10 @@ module _ (t : List ℤ) (at left : ℕ) (w x : Work) (S : Like (rulePass (rulesF
 -- ---- the atoms from p on
 
 module _ (P : Program) (n p : ℕ) (w x : Work) (S : Like (atomPass P (suc n - p) p w) x) where
-  pub atoms-next : p ≤ n → (s′ : Pass) → Like (workOf s′) (stepAtom P p w) → Like (atomPass P (suc n - (p + 1)) (p + 1) (workOf s′)) x
+  pub atoms-next : p ≤ n → (s′ : Side) → Like (workOf s′) (stepAtom P p w) → Like (atomPass P (suc n - (p + 1)) (p + 1) (workOf s′)) x
   atoms-next h s′ g = like-then (like-atoms P (suc n - (p + 1)) (p + 1) g) (subst (λ (u : Work). Like u x) (atoms-on P n p w h) S)
 
-  pub atoms-end : p ≤ n → (s′ : Pass) (C : Levels) → stepAtom P p w ≡ refuted C w → Like (workOf s′) (refuted C w) → Like (workOf s′) x
+  pub atoms-end : p ≤ n → (s′ : Side) (C : Levels) → stepAtom P p w ≡ refuted C w → Like (workOf s′) (refuted C w) → Like (workOf s′) x
   atoms-end h s′ C e g =
       let z : atomPass P (suc n - p) p w ≡ refuted C w =
       atoms-on P n p w h ∙ ap (atomPass P (suc n - (p + 1)) (p + 1)) e ∙ atoms-conflict P (suc n - (p + 1)) (p + 1) (refuted C w) C refl in
@@ -54,10 +54,10 @@ module _ (P : Program) (n f : ℕ) (w x : Work) (fuel : 0 < f) (S : Like (passes
   went = subst (λ (u : Work). Like u x) (passes-on P n f w (pass P n w) fuel refl) S
 
   -- the rules met a conflict: the atoms do nothing
-  pub ruled : (s : Pass) → s .conflict ≡ true → Like (workOf s) (rulePass P (unchanged w)) → Like (workOf s) (pass P n w)
+  pub ruled : (s : Side) → s .conflict ≡ true → Like (workOf s) (rulePass P (unchanged w)) → Like (workOf s) (pass P n w)
   ruled s e g = subst (λ (u : Work). Like u (pass P n w)) (atoms-conflict P n 1 (workOf s) noLevels (ap verdictBy e)) (like-atoms P n 1 g)
 
-  module _ (s : Pass) (g : Like (workOf s) (pass P n w)) where
+  module _ (s : Side) (g : Like (workOf s) (pass P n w)) where
     on : (u : Work) → goOn P n (f - 1) (workOf s) ≡ u → Like u x
     on u e = like-then (subst (λ (y : Work). Like y (goOn P n (f - 1) (pass P n w))) e (like-on P n (f - 1) g)) went
 

@@ -2,7 +2,8 @@
 -- no promise of a public function speaks of them.
 --   Alike, Like      cells that say the same of each atom; working states that differ in levels and reasons only
 --   bare             the interpretation of the values alone: each atom at level 0
---   workOf           the working state that a pass of the code stands for
+--   workOf           the working state that a side of the code stands for
+--   Comes            a side that came of another, which stands as a working state says and counts as many choices
 --   undefinedTo n a  how many of the atoms 1 .. n are undefined
 -- Assumes nothing.
 use Prim.Native.Nat.{ℕ, zero, suc, _+_}
@@ -13,7 +14,7 @@ use Rattle.levels.specs.Levels.{Levels, noLevels}
 use Rattle.interpretation.specs.State.{Cell, undefined, defined, Interpretation}
 use Rattle.interpretation.specs.View.{cellValue, valued}
 use Rattle.steps.specs.Steps.{Verdict, settled, conflict, isSettled, Work}
-use Rattle.passes.specs.declared.Pass.{Pass}
+use Rattle.plain.specs.declared.passes.Side.{Side}
 
 abbrev pub Alike : (ℕ → Cell) → (ℕ → Cell) → Type 0
 Alike a b = (p : ℕ) → cellValue (a p) ≡ cellValue (b p)
@@ -34,8 +35,12 @@ abbrev pub verdictBy : Bool → Verdict
 verdictBy true = conflict noLevels
 verdictBy false = settled
 
-abbrev pub workOf : Pass → Work
+abbrev pub workOf : Side → Work
 workOf s = record { level = 0; cell = valued (s .values); reason = noReasons; verdict = verdictBy (s .conflict); changed = s .changed }
+
+pub record Comes (s r : Side) (w : Work) : Type 0 where
+  pub like : Like (workOf r) w
+  pub kept : r .choices ≡ s .choices
 
 -- ---- what falls from pass to pass
 

@@ -30,9 +30,9 @@ use Rattle.rules.proofs.Rule.{step-rule}
 use Rattle.support.specs.declared.Ask.the-variants as ask
 use Rattle.support.specs.Asking.{askOf}
 use Rattle.support.proofs.Atom.{ask-nothing, ask-conflict, ask-unset, ask-sole}
-use Rattle.passes.specs.declared.Pass.{Pass}
-use Rattle.passes.specs.Passes.{Like, verdictBy, workOf}
-use Rattle.passes.proofs.Liking.{like-refl, like-then, like-set, like-e}
+use Rattle.plain.specs.declared.passes.Side.{Side}
+use Rattle.plain.specs.Passes.{Like, verdictBy, workOf, Comes}
+use Rattle.plain.proofs.Liking.{like-refl, like-then, like-set, like-e}
 
 -- ---- a value set
 
@@ -57,20 +57,21 @@ module _ (vs : List ℕ) (n : length vs ≡ 256) where
 
 -- ---- working states of the code
 
--- the pass s′ with no conflict came of the step w
-pub record Stepped (s′ : Pass) (w : Work) : Type 0 where
+-- the side s′ with no conflict came of s by the step w
+pub record Stepped (s s′ : Side) (w : Work) : Type 0 where
   pub like : Like (workOf s′) w
   pub free : s′ .conflict ≡ false
+  pub kept : s′ .choices ≡ s .choices
 
-pub moved : {s s′ : Pass} {w : Work} → s ≡ s′ → Stepped s′ w → Stepped s w
-moved {s} {s′} {w} e x = subst (λ (y : Pass). Stepped y w) (sym e) x
+pub moved : {o s s′ : Side} {w : Work} → s ≡ s′ → Stepped o s′ w → Stepped o s w
+moved {o} {s} {s′} {w} e x = subst (λ (y : Side). Stepped o y w) (sym e) x
 
 unsettled : (b : Bool) → isSettled (verdictBy b) ≡ true → b ≡ false
 unsettled true e = absurd (clash e refl)
 unsettled false e = refl
 
 -- what is like a working state without conflict has none
-pub free-of : (s : Pass) (w : Work) → Like (workOf s) w → w .verdict ≡ settled → s .conflict ≡ false
+pub free-of : (s : Side) (w : Work) → Like (workOf s) w → w .verdict ≡ settled → s .conflict ≡ false
 free-of s w S e = unsettled (s .conflict) (S .same ∙ ap isSettled e)
 
 -- step e meets no conflict
@@ -86,17 +87,17 @@ e-verdict : (o : Option Rule) (R : Levels) (w : Work) → (stepE o R w) .verdict
 e-verdict none R w = refl
 e-verdict (some r) R w = all-verdict false R (r .neg) _ ∙ all-verdict true R (r .pos) _ ∙ all-verdict false R (r .head) w
 
-module _ (s : Pass) (free : s .conflict ≡ false) where
+module _ (s : Side) (free : s .conflict ≡ false) where
   calm : workOf s .verdict ≡ settled
   calm = ap verdictBy free
 
-  pub refuted-like : (C : Levels) → Like (workOf (record { values = s .values; changed = s .changed; conflict = true })) (refuted C (workOf s))
+  pub refuted-like : (C : Levels) → Like (workOf (record { values = s .values; choices = s .choices; changed = s .changed; conflict = true })) (refuted C (workOf s))
   refuted-like C = record { cells = λ p. refl; same = refl; moved = refl }
 
-  set-stepped : (p : ℕ) (v : Bool) (R : Levels) (s′ : Pass) → Like (workOf s′) (steps.set p v noLevels (workOf s)) → Stepped s′ (steps.set p v R (workOf s))
+  set-stepped : (p : ℕ) (v : Bool) (R : Levels) (s′ : Side) → Comes s s′ (steps.set p v noLevels (workOf s)) → Stepped s s′ (steps.set p v R (workOf s))
   set-stepped p v R s′ g =
-      let l = like-then g (like-set p v noLevels R (like-refl (workOf s))) in
-      record { like = l; free = free-of s′ (steps.set p v R (workOf s)) l calm }
+      let l = like-then (g .like) (like-set p v noLevels R (like-refl (workOf s))) in
+      record { like = l; free = free-of s′ (steps.set p v R (workOf s)) l calm; kept = g .kept }
 
   -- ---- steps a to c
 
@@ -107,31 +108,31 @@ module _ (s : Pass) (free : s .conflict ≡ false) where
         ∙ ap (λ (v : Verdict). ifSettled v (did (demandOf (valued (s .values)) r) (ruleReason r (workOf s)) (workOf s)) (workOf s)) calm
         ∙ ap (λ (x : Step). did x (ruleReason r (workOf s)) (workOf s)) e
 
-    pub rule-nothing : demandOf (valued (s .values)) r ≡ Nothing → Stepped s (stepRule r (workOf s))
-    rule-nothing e = rw (rule-does Nothing e) (record { like = like-refl (workOf s); free = free })
+    pub rule-nothing : demandOf (valued (s .values)) r ≡ Nothing → Stepped s s (stepRule r (workOf s))
+    rule-nothing e = rw (rule-does Nothing e) (record { like = like-refl (workOf s); free = free; kept = refl })
 
     pub rule-refutes : demandOf (valued (s .values)) r ≡ Conflict → stepRule r (workOf s) ≡ refuted (ruleReason r (workOf s)) (workOf s)
     rule-refutes e = rule-does Conflict e
 
-    pub rule-sets : (p : ℕ) (v : Bool) (s′ : Pass) → demandOf (valued (s .values)) r ≡ Set p v → Like (workOf s′) (steps.set p v noLevels (workOf s)) → Stepped s′ (stepRule r (workOf s))
+    pub rule-sets : (p : ℕ) (v : Bool) (s′ : Side) → demandOf (valued (s .values)) r ≡ Set p v → Comes s s′ (steps.set p v noLevels (workOf s)) → Stepped s s′ (stepRule r (workOf s))
     rule-sets p v s′ e g = rw (rule-does (Set p v) e) (set-stepped p v (ruleReason r (workOf s)) s′ g)
 
   -- ---- steps d and e
 
   module _ (t : List ℤ) (tb : Table) (p : ℕ) where
-    pub atom-nothing : askOf t tb (valued (s .values)) p ≡ ask.Nothing → Stepped s (stepAtom (programOf t tb) p (workOf s))
-    atom-nothing e = rw (ask-nothing p (workOf s) t tb calm e) (record { like = like-refl (workOf s); free = free })
+    pub atom-nothing : askOf t tb (valued (s .values)) p ≡ ask.Nothing → Stepped s s (stepAtom (programOf t tb) p (workOf s))
+    atom-nothing e = rw (ask-nothing p (workOf s) t tb calm e) (record { like = like-refl (workOf s); free = free; kept = refl })
 
     pub atom-refutes : askOf t tb (valued (s .values)) p ≡ ask.Conflict → (C : Levels) × (stepAtom (programOf t tb) p (workOf s) ≡ refuted C (workOf s))
     atom-refutes e = (_, ask-conflict p (workOf s) t tb calm e)
 
-    pub atom-unsets : (s′ : Pass) → askOf t tb (valued (s .values)) p ≡ ask.Unset → Like (workOf s′) (steps.set p false noLevels (workOf s)) → Stepped s′ (stepAtom (programOf t tb) p (workOf s))
+    pub atom-unsets : (s′ : Side) → askOf t tb (valued (s .values)) p ≡ ask.Unset → Comes s s′ (steps.set p false noLevels (workOf s)) → Stepped s s′ (stepAtom (programOf t tb) p (workOf s))
     atom-unsets s′ e g = rw (ask-unset p (workOf s) t tb calm e) (set-stepped p false _ s′ g)
 
-    pub atom-forces : (i : ℕ) (s′ : Pass) → askOf t tb (valued (s .values)) p ≡ ask.Sole i → Like (workOf s′) (stepE (some (ruleAt t i)) noLevels (workOf s)) → Stepped s′ (stepAtom (programOf t tb) p (workOf s))
+    pub atom-forces : (i : ℕ) (s′ : Side) → askOf t tb (valued (s .values)) p ≡ ask.Sole i → Comes s s′ (stepE (some (ruleAt t i)) noLevels (workOf s)) → Stepped s s′ (stepAtom (programOf t tb) p (workOf s))
     atom-forces i s′ e g = rw (ask-sole p (workOf s) t tb i calm e) (forced-stepped _)
       where
-        forced-stepped : (R : Levels) → Stepped s′ (stepE (some (ruleAt t i)) R (workOf s))
+        forced-stepped : (R : Levels) → Stepped s s′ (stepE (some (ruleAt t i)) R (workOf s))
         forced-stepped R =
-            let l = like-then g (like-e (some (ruleAt t i)) noLevels R (like-refl (workOf s))) in
-            record { like = l; free = free-of s′ _ l (e-verdict (some (ruleAt t i)) R (workOf s) ∙ calm) }
+            let l = like-then (g .like) (like-e (some (ruleAt t i)) noLevels R (like-refl (workOf s))) in
+            record { like = l; free = free-of s′ _ l (e-verdict (some (ruleAt t i)) R (workOf s) ∙ calm); kept = g .kept }

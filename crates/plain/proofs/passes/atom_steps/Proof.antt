@@ -1,4 +1,4 @@
--- `passes::atom_steps` meets its contract. The invariant of its loop: what the atoms from p on make of the pass is like what all atoms make of the first one.
+-- `plain::passes::atom_steps` meets its contract. The invariant of its loop: what the atoms from p on make of the pass is like what all atoms make of the first one.
 -- The measure is the number of atoms to come. A conflict ends the code's loop at once, and the defined steps do nothing after it.
 -- Assumes nothing.
 use borrow.Author.Needs.{needs}
@@ -11,28 +11,28 @@ use Rattle.interpretation.specs.View.{valued}
 use Rattle.layout.specs.Layout.{programOf}
 use Rattle.steps.specs.Steps.{atomPass, stepAtom}
 use Rattle.support.proofs.Atom.{sole-lies}
-use Rattle.passes.specs.declared.Pass.{Pass}
-use Rattle.passes.specs.Passes.{Like, workOf}
-use Rattle.passes.proofs.Liking.{like-refl}
-use Rattle.passes.proofs.Stepping.{Stepped, moved, refuted-like, atom-nothing, atom-refutes, atom-unsets, atom-forces}
-use Rattle.passes.proofs.Walking.{atoms-next, atoms-end, atoms-over}
-use Rattle.passes.proofs.atom_steps.Statement.{statement}
-use Rattle.passes.proofs.atom_steps.Tie as tie
+use Rattle.plain.specs.declared.passes.Side.{Side}
+use Rattle.plain.specs.Passes.{Like, workOf}
+use Rattle.plain.proofs.Liking.{like-refl}
+use Rattle.plain.proofs.Stepping.{Stepped, moved, refuted-like, atom-nothing, atom-refutes, atom-unsets, atom-forces}
+use Rattle.plain.proofs.Walking.{atoms-next, atoms-end, atoms-over}
+use Rattle.plain.proofs.passes.atom_steps.Statement.{statement}
+use Rattle.plain.proofs.passes.atom_steps.Tie as tie
 
 abbrev Inv-loop : tie.InvT-loop
-Inv-loop t tb lists pass₀ n p₀ pass p =
-    (1 ≤ p) × (p ≤ suc (tb .atoms)) × (pass .conflict ≡ false)
-    × Like (atomPass (programOf t tb) (suc (tb .atoms) - p) p (workOf pass)) (atomPass (programOf t tb) (tb .atoms) 1 (workOf pass₀))
+Inv-loop t tb lists side₀ n p₀ side p =
+    (1 ≤ p) × (p ≤ suc (tb .atoms)) × (side .conflict ≡ false)
+    × Like (atomPass (programOf t tb) (suc (tb .atoms) - p) p (workOf side)) (atomPass (programOf t tb) (tb .atoms) 1 (workOf side₀)) × (side .choices ≡ side₀ .choices)
 
 abbrev μ-loop : tie.MeasureT-loop
-μ-loop t tb lists pass₀ n p₀ pass p = suc (tb .atoms) - p
+μ-loop t tb lists side₀ n p₀ side p = suc (tb .atoms) - p
 
 loop-holds : tie.Need-loop-holds Inv-loop μ-loop
 loop-holds c =
     let a = c .args in
     let P = programOf (a .t .now) (a .tb) in
     let e : suc (a .tb .atoms) - 1 ≡ a .tb .atoms = omega arith in
-    (omega arith, omega arith, c .pre .2, subst (λ (k : ℕ). Like (atomPass P k 1 (workOf (a .t4))) (atomPass P (a .tb .atoms) 1 (workOf (a .t4)))) (sym e) (like-refl _))
+    (omega arith, omega arith, c .pre .2, subst (λ (k : ℕ). Like (atomPass P k 1 (workOf (a .t4))) (atomPass P (a .tb .atoms) 1 (workOf (a .t4)))) (sym e) (like-refl _), refl)
 
 asked-requires : tie.Need-asked-requires Inv-loop μ-loop
 asked-requires c κs =
@@ -59,11 +59,15 @@ returns c =
     let i = d .before .before .before in
     let b = i .before in
     let a = b .before .args in
-    let s = b .loop .pass in
+    let s = b .loop .side in
     let free = b .loop .inv .2 in
     let x = atom-refutes s free (a .t .now) (a .tb) (b .loop .p) (sym (d .asked .ensures) ∙ c .enum-told2 .given .1) in
-    atoms-end (programOf (a .t .now) (a .tb)) (a .tb .atoms) (b .loop .p) (workOf s) _ (b .loop .inv .3) (i .loop-test .taken)
-    (record { values = s .values; changed = s .changed; conflict = true }) (x .0) (x .1) (refuted-like s free (x .0))
+    record {
+      like =
+          atoms-end (programOf (a .t .now) (a .tb)) (a .tb .atoms) (b .loop .p) (workOf s) _ (b .loop .inv .3) (i .loop-test .taken)
+          (record { values = s .values; choices = s .choices; changed = s .changed; conflict = true }) (x .0) (x .1) (refuted-like s free (x .0));
+      kept = b .loop .inv .4;
+    }
 
 set-requires : tie.Need-set-requires Inv-loop μ-loop
 set-requires c κs =
@@ -78,18 +82,18 @@ forced-by-requires c κs =
     let b = d .before .before .before .before in
     let a = b .before .args in
     let L = b .before .pre .0 in
-    (L, sole-lies (a .t .now) (a .tb) (valued (b .loop .pass .values)) (b .loop .p) (k .ask .given .0 .0) (sym (d .asked .ensures) ∙ k .ask .given .1) L)
+    (L, sole-lies (a .t .now) (a .tb) (valued (b .loop .side .values)) (b .loop .p) (k .ask .given .0 .0) (sym (d .asked .ensures) ∙ k .ask .given .1) L)
 
 -- ---- what the atom makes of the pass
 
-abbrev Came : tie.After-asked Inv-loop μ-loop → Pass → Type 0
-Came d s = let b = d .before .before .before .before in Stepped s (stepAtom (programOf (b .before .args .t .now) (b .before .args .tb)) (b .loop .p) (workOf (b .loop .pass)))
+abbrev Came : tie.After-asked Inv-loop μ-loop → Side → Type 0
+Came d s = let b = d .before .before .before .before in Stepped (b .loop .side) s (stepAtom (programOf (b .before .args .t .now) (b .before .args .tb)) (b .loop .p) (workOf (b .loop .side)))
 
-came : (c : tie.At-match-came Inv-loop μ-loop) → Came (c .before) (c .match .pass)
+came : (c : tie.At-match-came Inv-loop μ-loop) → Came (c .before) (c .match .side)
 came c =
     let d = c .before in
     let b = d .before .before .before .before in
-    let s = b .loop .pass in
+    let s = b .loop .side in
     let free = b .loop .inv .2 in
     let t = b .before .args .t .now in
     let tb = b .before .args .tb in
@@ -116,14 +120,15 @@ loop-again c =
       omega arith,
       omega (arith, i .loop-test .taken),
       x .free,
-      atoms-next (programOf (a .t .now) (a .tb)) (a .tb .atoms) (b .loop .p) (workOf (b .loop .pass)) _ (b .loop .inv .3) (i .loop-test .taken) (c .match .pass) (x .like),
+      atoms-next (programOf (a .t .now) (a .tb)) (a .tb .atoms) (b .loop .p) (workOf (b .loop .side)) _ (b .loop .inv .3) (i .loop-test .taken) (c .match .side) (x .like),
+      x .kept ∙ b .loop .inv .4,
     )
 
 returns-2 : tie.Need-returns-2 Inv-loop μ-loop
 returns-2 c =
     let b = c .before in
     let a = b .before .args in
-    atoms-over (programOf (a .t .now) (a .tb)) (a .tb .atoms) (b .loop .p) (workOf (b .loop .pass)) _ (b .loop .inv .3) (c .loop-test .left)
+    record { like = atoms-over (programOf (a .t .now) (a .tb)) (a .tb .atoms) (b .loop .p) (workOf (b .loop .side)) _ (b .loop .inv .3) (c .loop-test .left); kept = b .loop .inv .4 }
 
 pub atom-steps-spec : {M : Type 1} → statement M
 atom-steps-spec =

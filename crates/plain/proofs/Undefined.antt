@@ -17,7 +17,7 @@ use Rattle.steps.specs.Steps.{Work, pass}
 use Rattle.interpretation.proofs.Cells.{cellCase}
 use Rattle.steps.proofs.Ending.{missing, fewer}
 use Rattle.steps.proofs.Lits.{atom-defined}
-use Rattle.passes.specs.Passes.{Alike, one, undefinedTo}
+use Rattle.plain.specs.Passes.{Alike, one, undefinedTo}
 
 -- ---- the same number as crates `steps` and `search` count it
 

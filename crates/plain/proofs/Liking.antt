@@ -27,7 +27,7 @@ use Rattle.rules.specs.Demand.{deniedLits, demandOf, did}
 use Rattle.rules.proofs.Rule.{step-rule}
 use Rattle.rules.proofs.Alone.{asks-same}
 use Rattle.propagation.proofs.Passing.{goOn}
-use Rattle.passes.specs.Passes.{Alike, Like}
+use Rattle.plain.specs.Passes.{Alike, Like}
 
 pub like-refl : (w : Work) → Like w w
 like-refl w = record { cells = λ p. refl; same = refl; moved = refl }
