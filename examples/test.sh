@@ -26,7 +26,7 @@ done
     printf 'asp 1 0 0\n1 1 1 1 0 0\n0\n' | target/examples/aspif read || true
 } | diff - examples/expected-aspif
 echo "aspif: ok"
-target/examples/pins_c | diff - examples/expected_pins
+target/examples/pins_c | diff - examples/expected-pins
 echo "pins_c: ok"
 cc -std=c11 -Wall -Wextra -Werror -O2 -I include examples/c/list.c target/staticlib/libdock.a -o target/examples/list_c
 target/examples/list_c | diff - examples/expected-list

@@ -1,13 +1,13 @@
 #!/usr/bin/env python3
 """What the compiled library is given, and has to print, of sessions with pins (request 10).
 
-    python3 tools/pins.py OUT VECTORS ..     writes OUT/scripts, OUT/scripts.stdout, OUT/sets and OUT/sets.stdout
+    python3 tools/pins.py [--without-4] OUT VECTORS ..     writes OUT/scripts, OUT/scripts.stdout, OUT/sets and OUT/sets.stdout
 
 VECTORS have one JSON object a line. Those with a `script` are of request 10: `words`, the calls of a session (["pin", atom, value], ["unpin"], ["plan", room, limit]) and
 `results`, what an implementation that shares nothing with this repository says of each: null for a pin or removal that is done, {"refused": [number, place]}, or a
 plan's `end`, `choices`, `skips`, `passes`, `why` and `plan`. A table that is refused has its refusal in the place of the list. Cases of other editions, or with head cycles
-allowed, are passed over. The counts are those under request 4's reasons. Where a table has aggregates, the definition's own reasons may be others: there the counts are not
-compared, a plan that met its limit is left out, and the others are asked for with no limit in the way, which changes neither the result nor the plan.
+allowed, are passed over. The counts are those under request 4's reasons. While request 4 has not landed (--without-4) the reasons of tables with aggregates may be others:
+there the counts are not compared, a plan that met its limit is left out, and the others are asked for with no limit in the way, which changes neither the result nor the plan.
 
 `scripts` has a call on each line: `o` with the words, `p` atom value, `u`, `l` room limit, and `L` room limit where counts are not compared. Of each, `scripts.stdout` has what
 tools/dock/pins.c prints: the result, its numbers, the true atoms, a sum over the whole buffer, and each true atom's round and rule.
@@ -60,11 +60,11 @@ def call_lines(call, result, exact):
     return [(text, "done" if result is None else "refused {} {}".format(*result["refused"]))]
 
 
-def script_lines(case):
+def script_lines(case, landed):
     lines = [("o " + " ".join(map(str, case["words"])), "done")]
     if isinstance(case["results"], dict):
         return [(lines[0][0], "refused {} {}".format(*case["results"]["refused"]))]
-    exact = case["words"][1] == 0
+    exact = landed or case["words"][1] == 0
     for call, result in zip(case["script"], case["results"]):
         lines += call_lines(call, result, exact)
     return lines
@@ -102,12 +102,14 @@ def write(path, lines):
         f.write("".join(line + "\n" for line in lines))
 
 
-def main(out, vectors):
+def main(arguments):
+    landed = "--without-4" not in arguments
+    out, *vectors = [a for a in arguments if a != "--without-4"]
     cases = []
     for path in vectors:
         with open(path, encoding="utf-8") as f:
             cases += [case for case in map(json.loads, f) if case.get("edition", 1) == 1 and not case.get("cycles", False)]
-    calls = [pair for case in cases if "script" in case for pair in script_lines(case)]
+    calls = [pair for case in cases if "script" in case for pair in script_lines(case, landed)]
     tables = sorted({tuple(case["words"]) for case in cases if is_small(case.get("words", []))}, key=lambda words: (len(words), words))[-120:]
     found = [line for words in tables for line in set_lines(list(words))]
     write(os.path.join(out, "scripts"), [call for call, _ in calls])
@@ -118,4 +120,4 @@ def main(out, vectors):
 
 
 if __name__ == "__main__":
-    main(sys.argv[1], sys.argv[2:])
+    main(sys.argv[1:])
