@@ -30,7 +30,7 @@ returns c =
     let w = c .before .before .before in
     let n = w .before in
     let r = n .before .before .before .before in
-    let old = r .before .before .before .before .args .report .now in
+    let old = r .before .before .before .before .before .before .args .report .now in
     record {
       result = r .list-with .result;
       listing = r .list-with .ensures;
