@@ -5,7 +5,7 @@
 
 VECTORS has one JSON object a line: `words`, `limit` and `length` (of the rows, in bytes) of a call, and `result`, what an implementation that shares nothing with this
 repository says of it: {"refused": [number, place]}, or `end` (complete, full or limit), `plans` (each a byte for each atom), `choices` and `skips`. Where the counts
-under the definition's own reasons are others than under request 4's, the whole result stands in `result01`. Calls of another edition, or with head cycles allowed, are
+under 01's own reasons are others, the whole result stands in `result01`, which is not used. Calls of another edition, or with head cycles allowed, are
 passed over. A text of `stdin` is the limit, the length and the words in decimal, after its length in bytes, four bytes, low byte first. Of each, `stdout` has two
 lines: the end, the number listed, the choices and the skips, or the refusal; and the same of a listing of all plans without a limit into 256 rows, without counts.
 
@@ -36,7 +36,7 @@ def ended(head, plans, length):
 
 
 def line_of(case):
-    result = case.get("result01", case["result"])
+    result = case["result"]
     if "refused" in result:
         number, place = result["refused"]
         return ended(f"refused {number} {place}", [], case["length"])
