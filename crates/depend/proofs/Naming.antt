@@ -13,13 +13,13 @@ use Rattle.meaning.specs.Program.{Program, In, AtomsIn}
 use Rattle.meaning.specs.Dependency.{Chain, stay, go}
 use Rattle.meaning.specs.Cycles.{via}
 use Rattle.meaning.proofs.Cond.{eqCase, ltCase}
-use Rattle.meaning.proofs.Tools.{clash, cases, both, and-i, and-l, and-r, chain-join, via-chain, chain-via}
-use Rattle.levels.specs.Levels.{Levels}
+use Rattle.meaning.proofs.Tools.{clash, cases, both, and-i, and-l, and-r, or-e, or-r, chain-join, via-chain, chain-via}
+use Rattle.levels.specs.Levels.{Levels, union}
 use Rattle.reach.specs.Arcs.{arcsOf}
-use Rattle.reach.specs.Visits.{Circle, Settling}
+use Rattle.reach.specs.Visits.{Circle, Off, Settling, Settled}
 use Rattle.reach.proofs.Graph.{arcs-low, chain-inside}
-use Rattle.reach.proofs.Settled.{settled-alone}
-use Rattle.depend.specs.Circles.{nameOf, alike, Apart, Renamed, Named}
+use Rattle.reach.proofs.Settled.{chain-closed, off-alone, settled-alone}
+use Rattle.depend.specs.Circles.{nameOf, alike, Apart, Renamed, Named, Final}
 
 -- ---- circles
 
@@ -93,17 +93,21 @@ module _ (added : Bool) (n : ℕ) (P : Program) (A : AtomsIn n P) where
     done = λ p q i j h. absurd (omega (arith, i .0));
   }
 
-  -- nothing to do for an atom that is alone on its circle
-  pub named-alone : (k : ℕ) (x : List ℕ) → Named R n k x → ((q : ℕ) → Circle R (k + 1) q → k + 1 ≡ q) → Named R n (k + 1) x
-  named-alone k x N f = record { sized = N .sized; own = N .own; low = λ q i. later q (N .low q i); done = λ p q i j h c. at p q i j h c (eqCase p (k + 1)) }
+  -- nothing to do for an atom whose circle has one name
+  pub named-one : (k : ℕ) (x : List ℕ) → Named R n k x → ((q : ℕ) → In n q → Circle R (k + 1) q → nameOf x q ≡ nameOf x (k + 1)) → Named R n (k + 1) x
+  named-one k x N f = record { sized = N .sized; own = N .own; low = λ q i. later q (N .low q i); done = λ p q i j h c. at p q i j h c (eqCase p (k + 1)) }
     where
       later : (q : ℕ) → (nameOf x q ≡ q - 1) ⊎ (nameOf x q < k) → (nameOf x q ≡ q - 1) ⊎ (nameOf x q < k + 1)
       later q (inl e) = inl e
       later q (inr h) = inr (omega arith)
 
       at : (p q : ℕ) → In n p → In n q → p ≤ k + 1 → Circle R p q → (p ≡ k + 1) ⊎ (p ≢ k + 1) → nameOf x q ≡ nameOf x p
-      at p q i j h c (inl e) = ap (nameOf x) (sym (f q (subst (λ (y : ℕ). Circle R y q) e c)) ∙ sym e)
+      at p q i j h c (inl e) = f q j (subst (λ (y : ℕ). Circle R y q) e c) ∙ ap (nameOf x) (sym e)
       at p q i j h c (inr d) = N .done p q i j (omega (arith, d)) c
+
+  -- as of one that is alone on it
+  pub named-alone : (k : ℕ) (x : List ℕ) → Named R n k x → Off R (k + 1) → Named R n (k + 1) x
+  named-alone k x N o = named-one k x N (λ q j c. ap (nameOf x) (sym (off-alone R (k + 1) q o c)))
 
   -- nor for one whose circle has a name
   pub named-before : (k : ℕ) (x : List ℕ) → Named R n k x → k < n → nameOf x (k + 1) ≢ k → Named R n (k + 1) x
@@ -172,6 +176,56 @@ module _ (added : Bool) (n : ℕ) (P : Program) (A : AtomsIn n P) where
       done p q i j g c (inr s) (inr t) =
           let d : p ≢ k + 1 = λ e. clash ((exact p) .1 (subst (λ (z : ℕ). Circle R z p) e (circle-self R p))) s in
           off q j t ∙ N .done p q i j (omega (arith, d)) c ∙ sym (off p i s)
+
+  -- ---- what is done with
+
+  pub final-first : (x : List ℕ) (B : Levels) → Settled R B → Final R n x B
+  final-first x B s = record { closed = s .closed; one = λ p q i j h c. ap (nameOf x) (sym (settled-alone R B s p q h c)) }
+
+  -- atoms on no cycle besides
+  pub final-more : (x : List ℕ) (B C : Levels) → Final R n x B → Settling R B C → Final R n x C
+  final-more x B C f s = record { closed = s .closed; one = λ p q i j h c. at p q i j c (s .off p h) }
+    where
+      at : (p q : ℕ) → In n p → In n q → Circle R p q → Is (B p) ⊎ Off R p → nameOf x q ≡ nameOf x p
+      at p q i j c (inl h) = f .one p q i j h c
+      at p q i j c (inr o) = ap (nameOf x) (sym (off-alone R p q o c))
+
+  -- another circle named, by an atom that is not done with
+  module _ (k : ℕ) (x y : List ℕ) (S B : Levels) (f : Final R n x B) (new : B (k + 1) ≡ false) (exact : (q : ℕ) → Is (S q) ↔ Circle R (k + 1) q) (r : Renamed 0 n S (k + 1) x y) where
+    -- none of its atoms is
+    apart : (q : ℕ) → Is (B q) → S q ≡ false
+    apart q h = at (cases (S q))
+      where
+        at : Is (S q) ⊎ (S q ≡ false) → S q ≡ false
+        at (inl s) = absurd (clash (chain-closed R B (f .closed) q (k + 1) h ((exact q) .0 s .back)) new)
+        at (inr e) = e
+
+    off : (q : ℕ) → In n q → Is (B q) → nameOf y q ≡ nameOf x q
+    off q i h = r .kept q (i .0) (i .1) (apart q h)
+
+    pub final-kept : Final R n y B
+    final-kept = record {
+      closed = f .closed;
+      one = λ p q i j h c. off q j (chain-closed R B (f .closed) p q h (c .there)) ∙ f .one p q i j h c ∙ sym (off p i h);
+    }
+
+    -- and the circle with them, where it leads to nothing else
+    pub final-round : (C : Levels) → C ≡ union S B → ((q : ℕ) → Chain R (k + 1) q → Is (C q)) → Final R n y C
+    final-round C e all = record {
+      closed = λ p q h a. next p q a (or-e (S p) (B p) (ap (λ (X : Levels). X p) (sym e) ∙ h));
+      one = λ p q i j h c. one p q i j c (or-e (S p) (B p) (ap (λ (X : Levels). X p) (sym e) ∙ h));
+    }
+      where
+        next : (p q : ℕ) → Is (R p q) → Is (S p) ⊎ Is (B p) → Is (C q)
+        next p q a (inl s) = all q (go ((exact p) .0 s .there) a)
+        next p q a (inr h) = ap (λ (X : Levels). X q) e ∙ or-r (S q) (B q) (f .closed p q h a)
+
+        on : (q : ℕ) → In n q → Is (S q) → nameOf y q ≡ k + 1 - 1
+        on q i s = r .put q (i .0) (i .1) s
+
+        one : (p q : ℕ) → In n p → In n q → Circle R p q → Is (S p) ⊎ Is (B p) → nameOf y q ≡ nameOf y p
+        one p q i j c (inl s) = on q j ((exact q) .1 (circle-join R (k + 1) p q ((exact p) .0 s) c)) ∙ sym (on p i s)
+        one p q i j c (inr h) = final-kept .one p q i j h c
 
   -- ---- what equal names say
 

@@ -16,7 +16,7 @@ use Rattle.meaning.proofs.Rank.{added-i}
 use Rattle.meaning.proofs.Cycles.{head-cycle, aggregate-cycle}
 use Rattle.levels.specs.Levels.{Levels, upTo}
 use Rattle.reach.specs.Arcs.{arcsOf}
-use Rattle.reach.specs.Visits.{Part, Settling}
+use Rattle.reach.specs.Visits.{Part, Settled}
 use Rattle.reach.proofs.Inside.{below}
 use Rattle.reach.proofs.Graph.{arcs-low}
 use Rattle.reach.proofs.Settled.{settled-alone, settled-open}
@@ -86,13 +86,13 @@ module _ (n : ℕ) (P : Program) (A : AtomsIn n P) where
     inside : (p : ℕ) → In n p → Is (S p)
     inside p i = all p (ifLt-yes 0 p _ _ (i .0) ∙ ifLt-no n p _ _ (i .1))
 
-    pub settled-8 : Settling (arc P) S → lowest (headCycle (suc n) P) 1 P ≡ Nowhere
+    pub settled-8 : Settled (arc P) S → lowest (headCycle (suc n) P) 1 P ≡ Nowhere
     settled-8 s = (lowest-none P (headCycle (suc n) P) (HeadCycle P) (head-cycle (suc n) P (below n P A))) .1 free
       where
         free : (r : Rule) → r ∈ P → HeadCycle P r → ⊥
         free r m c = c .differ (settled-alone (arc P) S s (c .first) (c .second) (inside (c .first) (A r m .heads (c .first) (c .firstIn))) (record { there = c .there; back = c .back }))
 
-    pub settled-9 : Settling (anyArc P) S → lowest (aggregateCycle (suc n) P) 1 P ≡ Nowhere
+    pub settled-9 : Settled (anyArc P) S → lowest (aggregateCycle (suc n) P) 1 P ≡ Nowhere
     unfolding anyArc
     settled-9 s = (lowest-none P (aggregateCycle (suc n) P) (AggregateCycle P) (aggregate-cycle (suc n) P (below n P A))) .1 free
       where

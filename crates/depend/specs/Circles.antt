@@ -4,6 +4,7 @@
 --   Apart n x          the first n names are those of the atoms themselves
 --   Renamed i n A p x y   y is x, where those of A among the atoms above i, up to n, have the name of p
 --   Named R n k x      each name is that of an atom of the circle; the circles of the atoms 1 .. k have one name each
+--   Final R n x A      no arc leads out of A, and the circles of its atoms have one name each
 -- Assumes nothing.
 use mathlib.Core.Path.{_≡_}
 use mathlib.Core.Bool.{Bool, false}
@@ -15,7 +16,7 @@ use lib.ListN.{length, getD}
 use Rattle.meaning.specs.Lists.{Is}
 use Rattle.meaning.specs.Program.{In}
 use Rattle.levels.specs.Levels.{Levels}
-use Rattle.reach.specs.Visits.{Circle}
+use Rattle.reach.specs.Visits.{Circle, Closed}
 
 abbrev pub nameOf : List ℕ → ℕ → ℕ
 nameOf x q = getD x (q - 1) 0
@@ -37,3 +38,7 @@ pub record Named (R : ℕ → ℕ → Bool) (n k : ℕ) (x : List ℕ) : Type 0 
   pub own : (q : ℕ) → In n q → Circle R (suc (nameOf x q)) q
   pub low : (q : ℕ) → In n q → (nameOf x q ≡ q - 1) ⊎ (nameOf x q < k)
   pub done : (p q : ℕ) → In n p → In n q → p ≤ k → Circle R p q → nameOf x q ≡ nameOf x p
+
+pub record Final (R : ℕ → ℕ → Bool) (n : ℕ) (x : List ℕ) (A : Levels) : Type 0 where
+  pub closed : Closed R A
+  pub one : (p q : ℕ) → In n p → In n q → Is (A p) → Circle R p q → nameOf x q ≡ nameOf x p

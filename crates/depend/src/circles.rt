@@ -8,11 +8,12 @@ ghost use Rattle.layout.specs.Layout.{programOf, Laid};
 ghost use Rattle.heads.specs.Heads.{Listed};
 ghost use Rattle.levels.specs.View.{row};
 ghost use Rattle.reach.specs.Arcs.{arcsOf};
-ghost use Rattle.reach.specs.Visits.{Settling};
-ghost use Rattle.depend.specs.Circles.{alike, Apart, Renamed, Named};
+ghost use Rattle.reach.specs.Visits.{Settled};
+ghost use Rattle.depend.specs.Circles.{alike, Apart, Renamed, Named, Final};
 use heads::Lists;
 use layout::Table;
 use reach::back;
+use reach::marks;
 use reach::settling;
 
 // The name of an atom's circle is one of its atoms, less one.
@@ -66,7 +67,9 @@ pub fn name(these: [u64; 4], n: usize, p: usize, names: &mut Names)
     }
 }
 
-// The circle of the atom after p named, if that atom is not settled and has its own name still; and what is settled then, those that it reaches among them.
+// The circle of the atom after p named, if that atom is not done with and has its own name still; and what is done with then. An atom whose arcs all go to
+// such atoms is alone on its circle. Where all that an atom reaches is done with or on its circle, the circle is done with too; else those that it reaches
+// are tried, from the last on.
 pub fn find_one(
     t: &[i32],
     tb: Table,
@@ -76,9 +79,9 @@ pub fn find_one(
     p: usize,
     names: &mut Names,
 ) -> [u64; 4]
-    requires { ⌜ Laid (now t) tb × Listed (now t) tb (now lists) × Settling (arcsOf added (programOf (now t) tb)) (row settled) × (p < tb .atoms)
+    requires { ⌜ Laid (now t) tb × Listed (now t) tb (now lists) × Final (arcsOf added (programOf (now t) tb)) (tb .atoms) (now names) (row settled) × (p < tb .atoms)
         × Named (arcsOf added (programOf (now t) tb)) (tb .atoms) p (now names) ⌝ }
-    ensures { λ r. ⌜ Named (arcsOf added (programOf (now (t .entry)) tb)) (tb .atoms) (p + 1) (now (names .exit)) × Settling (arcsOf added (programOf (now (t .entry)) tb)) (row r) ⌝ }
+    ensures { λ r. ⌜ Named (arcsOf added (programOf (now (t .entry)) tb)) (tb .atoms) (p + 1) (now (names .exit)) × Final (arcsOf added (programOf (now (t .entry)) tb)) (tb .atoms) (now (names .exit)) (row r) ⌝ }
 {
     let q = p + 1;
     if levels::has(settled, q) {
@@ -87,18 +90,26 @@ pub fn find_one(
     if names[p] as usize != p {
         return settled;
     }
+    let tried = settling::settle(t, tb, lists, added, q, settled);
+    if levels::has(tried, q) {
+        return tried;
+    }
     let mut list = [0u8; 256];
     let round = back::circle(t, tb, lists, added, q, &mut list);
     let these = round.marks;
     let n = tb.atoms;
     name(these, n, q, names);
     let many = round.count;
+    let all = levels::union(these, settled);
+    if marks::listed_in(&list, many, all) {
+        return all;
+    }
     settling::along(t, tb, lists, added, &list, many, settled)
 }
 
 // The circles of all atoms named.
 pub fn find(t: &[i32], tb: Table, lists: &Lists, added: bool, settled: [u64; 4], names: &mut Names)
-    requires { ⌜ Laid (now t) tb × Listed (now t) tb (now lists) × Settling (arcsOf added (programOf (now t) tb)) (row settled) × (length (now names) ≡ 256) × Apart 256 (now names) ⌝ }
+    requires { ⌜ Laid (now t) tb × Listed (now t) tb (now lists) × Settled (arcsOf added (programOf (now t) tb)) (row settled) × (length (now names) ≡ 256) × Apart 256 (now names) ⌝ }
     ensures { λ _. ⌜ Named (arcsOf added (programOf (now (t .entry)) tb)) (tb .atoms) (tb .atoms) (now (names .exit)) ⌝ }
 {
     let n = tb.atoms;

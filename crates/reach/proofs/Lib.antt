@@ -9,3 +9,4 @@ pub mod Putting
 pub mod Visiting
 pub mod Leading
 pub mod Settled
+pub mod Members

@@ -11,7 +11,9 @@
 --   Led R q A a B b     the marked atoms A, a at least in number, with q if an arc goes from it to one of them
 --   Walked R l i k ..   the same for the atoms on the list l from i to k, one after the other
 --   Circle R p q        p and q reach each other
---   Settling R A        no chain of arcs leads from an atom of A back to it
+--   Closed R A          no arc leads out of A
+--   Off R p             no chain of arcs leads from p back to it
+--   Settling R A B      B is A with atoms on no cycle, and closed;  Settled R B: the same with no atom before
 -- Assumes nothing.
 use mathlib.Core.Path.{_≡_}
 use mathlib.Core.Bool.{Bool, true, false, cond}
@@ -22,7 +24,7 @@ use lib.ListN.{length, getD}
 use Rattle.meaning.specs.Lists.{Is}
 use Rattle.meaning.specs.Program.{In}
 use Rattle.meaning.specs.Dependency.{Chain}
-use Rattle.levels.specs.Levels.{Levels}
+use Rattle.levels.specs.Levels.{Levels, noLevels}
 
 abbrev pub Part : Levels → Levels → Type 0
 Part A B = (q : ℕ) → Is (A q) → Is (B q)
@@ -95,9 +97,16 @@ pub record Circle (R : ℕ → ℕ → Bool) (p q : ℕ) : Type 0 where
 
 -- ---- settling
 
--- settled atoms have arcs to settled atoms only, and those of a lower rank
-pub record Settling (R : ℕ → ℕ → Bool) (A : Levels) : Type 0 where
-  pub rank : ℕ → ℕ
-  pub next : ℕ
-  pub below : (p : ℕ) → Is (A p) → rank p < next
-  pub falls : (p q : ℕ) → Is (A p) → Is (R p q) → Is (A q) × (rank q < rank p)
+abbrev pub Closed : (ℕ → ℕ → Bool) → Levels → Type 0
+Closed R A = (p q : ℕ) → Is (A p) → Is (R p q) → Is (A q)
+
+abbrev pub Off : (ℕ → ℕ → Bool) → ℕ → Type 0
+Off R p = (q : ℕ) → Is (R p q) → Chain R q p → ⊥
+
+pub record Settling (R : ℕ → ℕ → Bool) (A B : Levels) : Type 0 where
+  pub kept : Part A B
+  pub closed : Closed R B
+  pub off : (p : ℕ) → Is (B p) → Is (A p) ⊎ Off R p
+
+abbrev pub Settled : (ℕ → ℕ → Bool) → Levels → Type 0
+Settled R B = Settling R noLevels B

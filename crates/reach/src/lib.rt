@@ -7,4 +7,5 @@ pub mod arcs;
 pub mod back;
 pub mod marks;
 pub mod settling;
+pub mod touching;
 pub mod visits;

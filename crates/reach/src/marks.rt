@@ -1,8 +1,9 @@
 // Atoms that are marked, and the list on which each marked atom stands once, in the order in which they were marked. Meaning: `specs/Visits.antt`.
 ghost use mathlib.Core.Path.{_≡_};
 ghost use mathlib.Core.Bool.{true, _&&_};
-ghost use Prim.Native.Nat.{_≤_};
-ghost use lib.ListN.{length};
+ghost use Prim.Native.Nat.{ℕ, suc, _≤_, _<_};
+ghost use lib.ListN.{length, getD};
+ghost use Rattle.meaning.specs.Lists.{Is};
 ghost use Rattle.levels.specs.Levels.{only};
 ghost use Rattle.levels.specs.View.{row};
 ghost use Rattle.reach.specs.Visits.{Part, Apart, Meeting, within, Queue, Put};
@@ -136,4 +137,20 @@ pub fn put(to: [u64; 4], n: usize, seen: Marked, list: &mut [u8; 256]) -> Marked
         l -= 1;
     }
     all
+}
+
+// Whether all of the first atoms of a list are in a set.
+pub fn listed_in(list: &[u8; 256], many: usize, set: [u64; 4]) -> bool
+    requires { ⌜ (many ≤ 256) × ((i : ℕ) → i < many → getD (now list) i 0 < 256) ⌝ }
+    ensures { λ r. ⌜ (r ≡ true → (i : ℕ) → i < many → Is (row set (suc (getD (now (list .entry)) i 0)))) ⌝ }
+{
+    let mut i: usize = 0;
+    while i < many {
+        let q = list[i] as usize + 1;
+        if !levels::has(set, q) {
+            return false;
+        }
+        i += 1;
+    }
+    true
 }

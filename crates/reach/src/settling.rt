@@ -1,4 +1,4 @@
-// Atoms that surely lie on no cycle: those whose arcs all go to atoms settled before. Walks over all atoms find most of them at once where there is no
+// Atoms that surely lie on no cycle: those whose arcs all go to atoms settled before, and to none else. Walks over all atoms find most of them at once where there is no
 // cycle; how many walks are made is bounded, since what is left unsettled is visited. Meaning: `specs/Visits.antt`.
 ghost use mathlib.Core.Path.{_≡_};
 ghost use mathlib.Core.Bool.{true};
@@ -9,16 +9,17 @@ ghost use Rattle.heads.specs.Heads.{Listed};
 ghost use Rattle.levels.specs.Levels.{upTo};
 ghost use Rattle.levels.specs.View.{row};
 ghost use Rattle.reach.specs.Arcs.{arcsOf};
-ghost use Rattle.reach.specs.Visits.{Part, Settling};
+ghost use Rattle.reach.specs.Visits.{Part, Closed, Settling, Settled};
 use crate::arcs;
 use crate::marks;
+use crate::touching;
 use heads::Lists;
 use layout::Table;
 
 // How many times all atoms are walked, down and up.
 pub const ROUNDS: usize = 2;
 
-// Atom p settled, if all its arcs go to settled atoms.
+// Atom p settled, if all its arcs go to settled atoms. Where one surely does not, that is seen first.
 pub fn settle(
     t: &[i32],
     tb: Table,
@@ -27,10 +28,13 @@ pub fn settle(
     p: usize,
     done: [u64; 4],
 ) -> [u64; 4]
-    requires { ⌜ Laid (now t) tb × Listed (now t) tb (now lists) × (1 ≤ p) × (p ≤ tb .atoms) × Settling (arcsOf added (programOf (now t) tb)) (row done) ⌝ }
-    ensures { λ r. ⌜ Settling (arcsOf added (programOf (now (t .entry)) tb)) (row r) ⌝ }
+    requires { ⌜ Laid (now t) tb × Listed (now t) tb (now lists) × (1 ≤ p) × (p ≤ tb .atoms) × Closed (arcsOf added (programOf (now t) tb)) (row done) ⌝ }
+    ensures { λ r. ⌜ Settling (arcsOf added (programOf (now (t .entry)) tb)) (row done) (row r) ⌝ }
 {
     if levels::has(done, p) {
+        return done;
+    }
+    if touching::touches(t, tb, lists, p, done, false) {
         return done;
     }
     let to = arcs::from_atom(t, tb, lists, added, p);
@@ -42,8 +46,8 @@ pub fn settle(
 
 // A walk from the last atom to the first.
 pub fn down(t: &[i32], tb: Table, lists: &Lists, added: bool, done: [u64; 4]) -> [u64; 4]
-    requires { ⌜ Laid (now t) tb × Listed (now t) tb (now lists) × Settling (arcsOf added (programOf (now t) tb)) (row done) ⌝ }
-    ensures { λ r. ⌜ Settling (arcsOf added (programOf (now (t .entry)) tb)) (row r) ⌝ }
+    requires { ⌜ Laid (now t) tb × Listed (now t) tb (now lists) × Closed (arcsOf added (programOf (now t) tb)) (row done) ⌝ }
+    ensures { λ r. ⌜ Settling (arcsOf added (programOf (now (t .entry)) tb)) (row done) (row r) ⌝ }
 {
     let mut all = done;
     let mut p = tb.atoms;
@@ -57,8 +61,8 @@ pub fn down(t: &[i32], tb: Table, lists: &Lists, added: bool, done: [u64; 4]) ->
 
 // A walk from the first atom to the last.
 pub fn up(t: &[i32], tb: Table, lists: &Lists, added: bool, done: [u64; 4]) -> [u64; 4]
-    requires { ⌜ Laid (now t) tb × Listed (now t) tb (now lists) × Settling (arcsOf added (programOf (now t) tb)) (row done) ⌝ }
-    ensures { λ r. ⌜ Settling (arcsOf added (programOf (now (t .entry)) tb)) (row r) ⌝ }
+    requires { ⌜ Laid (now t) tb × Listed (now t) tb (now lists) × Closed (arcsOf added (programOf (now t) tb)) (row done) ⌝ }
+    ensures { λ r. ⌜ Settling (arcsOf added (programOf (now (t .entry)) tb)) (row done) (row r) ⌝ }
 {
     let n = tb.atoms;
     let mut all = done;
@@ -82,8 +86,8 @@ pub fn along(
     done: [u64; 4],
 ) -> [u64; 4]
     requires { ⌜ Laid (now t) tb × Listed (now t) tb (now lists) × (many ≤ 256) × ((i : ℕ) → i < many → getD (now list) i 0 < tb .atoms)
-        × Settling (arcsOf added (programOf (now t) tb)) (row done) ⌝ }
-    ensures { λ r. ⌜ Settling (arcsOf added (programOf (now (t .entry)) tb)) (row r) ⌝ }
+        × Closed (arcsOf added (programOf (now t) tb)) (row done) ⌝ }
+    ensures { λ r. ⌜ Settling (arcsOf added (programOf (now (t .entry)) tb)) (row done) (row r) ⌝ }
 {
     let mut all = done;
     let mut i = many;
@@ -99,7 +103,7 @@ pub fn along(
 // The atoms that a few walks settle.
 pub fn settled(t: &[i32], tb: Table, lists: &Lists, added: bool) -> [u64; 4]
     requires { ⌜ Laid (now t) tb × Listed (now t) tb (now lists) ⌝ }
-    ensures { λ r. ⌜ Settling (arcsOf added (programOf (now (t .entry)) tb)) (row r) ⌝ }
+    ensures { λ r. ⌜ Settled (arcsOf added (programOf (now (t .entry)) tb)) (row r) ⌝ }
 {
     let mut all = levels::empty();
     let mut left = ROUNDS;

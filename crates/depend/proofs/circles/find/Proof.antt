@@ -5,16 +5,15 @@ use native.Mathlib.Omega.{arith}
 use Rattle.layout.specs.Layout.{programOf}
 use Rattle.levels.specs.View.{row}
 use Rattle.reach.specs.Arcs.{arcsOf}
-use Rattle.reach.specs.Visits.{Settling}
 use Rattle.reach.proofs.Inside.{laid-inside}
-use Rattle.depend.specs.Circles.{Named}
-use Rattle.depend.proofs.Naming.{named-first}
+use Rattle.depend.specs.Circles.{Named, Final}
+use Rattle.depend.proofs.Naming.{named-first, final-first}
 use Rattle.depend.proofs.circles.find.Statement.{statement}
 use Rattle.depend.proofs.circles.find.Tie as tie
 
 abbrev Inv-loop : tie.InvT-loop
 Inv-loop t tb lists added names₀ n done₀ p₀ names done p =
-    (p ≤ n) × Named (arcsOf added (programOf t tb)) n p names × Settling (arcsOf added (programOf t tb)) (row done)
+    (p ≤ n) × Named (arcsOf added (programOf t tb)) n p names × Final (arcsOf added (programOf t tb)) n names (row done)
 
 abbrev μ-loop : tie.MeasureT-loop
 μ-loop t tb lists added names₀ n done₀ p₀ names done p = n - p
@@ -22,7 +21,7 @@ abbrev μ-loop : tie.MeasureT-loop
 loop-holds : tie.Need-loop-holds Inv-loop μ-loop
 loop-holds c =
     let a = c .args in
-    (omega arith, named-first (a .added) (a .tb .atoms) (programOf (a .t .now) (a .tb)) (laid-inside (a .t .now) (a .tb) (c .pre .0)) (a .names .now) (c .pre .0 .fewAtoms) (c .pre .3) (c .pre .4), c .pre .2)
+    (omega arith, named-first (a .added) (a .tb .atoms) (programOf (a .t .now) (a .tb)) (laid-inside (a .t .now) (a .tb) (c .pre .0)) (a .names .now) (c .pre .0 .fewAtoms) (c .pre .3) (c .pre .4), final-first (a .added) (a .tb .atoms) (programOf (a .t .now) (a .tb)) (laid-inside (a .t .now) (a .tb) (c .pre .0)) (a .names .now) (row (a .settled)) (c .pre .2))
 
 find-one-requires : tie.Need-find-one-requires Inv-loop μ-loop
 find-one-requires c κs =

@@ -6,17 +6,18 @@ use Rattle.layout.specs.Layout.{programOf}
 use Rattle.levels.specs.View.{row}
 use Rattle.reach.specs.Arcs.{arcsOf}
 use Rattle.reach.specs.Visits.{Settling}
+use Rattle.reach.proofs.Settled.{settling-same, settling-join}
 use Rattle.reach.proofs.settling.along.Statement.{statement}
 use Rattle.reach.proofs.settling.along.Tie as tie
 
 abbrev Inv-loop : tie.InvT-loop
-Inv-loop t tb lists added list many all₀ i₀ all i = (i ≤ many) × Settling (arcsOf added (programOf t tb)) (row all)
+Inv-loop t tb lists added list many all₀ i₀ all i = (i ≤ many) × Settling (arcsOf added (programOf t tb)) (row all₀) (row all)
 
 abbrev μ-loop : tie.MeasureT-loop
 μ-loop t tb lists added list many all₀ i₀ all i = i
 
 loop-holds : tie.Need-loop-holds Inv-loop μ-loop
-loop-holds c = (omega arith, c .pre .4)
+loop-holds c = (omega arith, settling-same _ _ (c .pre .4))
 
 sub-i : tie.Need-sub-i Inv-loop μ-loop
 sub-i c = omega arith
@@ -39,13 +40,13 @@ settle-requires c κs =
     let b = c .before .before in
     let s = b .before in
     let h = in-range (c .before) in
-    (s .pre .0, s .pre .1, omega arith, omega (arith, h), b .loop .inv .1)
+    (s .pre .0, s .pre .1, omega arith, omega (arith, h), b .loop .inv .1 .closed)
 
 loop-less : tie.Need-loop-less Inv-loop μ-loop
 loop-less c = omega arith
 
 loop-again : tie.Need-loop-again Inv-loop μ-loop
-loop-again c = (omega arith, c .settle .ensures)
+loop-again c = (omega arith, settling-join _ _ _ _ (c .before .before .before .loop .inv .1) (c .settle .ensures))
 
 returns : tie.Need-returns Inv-loop μ-loop
 returns c = c .before .loop .inv .1

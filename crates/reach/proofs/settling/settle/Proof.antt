@@ -6,7 +6,7 @@ use Rattle.levels.specs.Levels.{Levels}
 use Rattle.levels.specs.View.{row}
 use Rattle.reach.specs.Arcs.{arcsOf}
 use Rattle.reach.specs.Visits.{Part, Settling}
-use Rattle.reach.proofs.Settled.{settling-more}
+use Rattle.reach.proofs.Settled.{settling-same, settling-more}
 use borrow.Author.Needs.{needs}
 use Rattle.reach.proofs.settling.settle.Statement.{statement}
 use Rattle.reach.proofs.settling.settle.Tie as tie
@@ -14,8 +14,18 @@ use Rattle.reach.proofs.settling.settle.Tie as tie
 has-requires : tie.Need-has-requires
 has-requires c κs = search needs
 
+-- nothing is settled
+same : (s : tie.Start) → let a = s .args in Settling (arcsOf (a .added) (programOf (a .t .now) (a .tb))) (row (a .done)) (row (a .done))
+same s = settling-same _ _ (s .pre .4)
+
 returns : tie.Need-returns
-returns c = search needs
+returns c = same (c .before .before)
+
+touches-requires : tie.Need-touches-requires
+touches-requires c κs = search needs
+
+returns-2 : tie.Need-returns-2
+returns-2 c = same (c .before .before .before .before)
 
 from-atom-requires : tie.Need-from-atom-requires
 from-atom-requires c κs = search needs
@@ -23,23 +33,23 @@ from-atom-requires c κs = search needs
 inside-requires : tie.Need-inside-requires
 inside-requires c κs = search needs
 
-returns-2 : tie.Need-returns-2
-returns-2 c = search needs
+returns-3 : tie.Need-returns-3
+returns-3 c = same (c .before .before .before .before .before .before .before)
 
 with-requires : tie.Need-with-requires
 with-requires c κs = search needs
 
-returns-3 : tie.Need-returns-3
-returns-3 c =
+returns-4 : tie.Need-returns-4
+returns-4 c =
     let d = c .before in
     let i = d .before in
     let f = i .before in
-    let e = f .before in
+    let e = f .before .before .before in
     let h = e .before in
     let s = h .before in
     let a = s .args in
     settling-more (arcsOf (a .added) (programOf (a .t .now) (a .tb))) (row (a .done)) (row (c .with .result)) (a .p) (s .pre .4) (sym (h .has .ensures) ∙ e .if1 .left)
-    (subst (λ (X : Levels). Part X (row (a .done))) (f .from-atom .ensures) (i .inside .ensures (not-false _ (d .if2 .left)))) (c .with .ensures)
+    (subst (λ (X : Levels). Part X (row (a .done))) (f .from-atom .ensures) (i .inside .ensures (not-false _ (d .if3 .left)))) (c .with .ensures)
 
 pub settle-spec : {M : Type 1} → statement M
 settle-spec =
@@ -47,8 +57,10 @@ settle-spec =
     (tie.spec
     has-requires
     returns
+    touches-requires
+    returns-2
     from-atom-requires
     inside-requires
-    returns-2
+    returns-3
     with-requires
-    returns-3)
+    returns-4)
