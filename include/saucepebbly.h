@@ -134,7 +134,7 @@ uint32_t saucepebbly_read_aspif(const uint8_t *text, size_t text_len, int32_t *w
  * of it does. A new atom above the table's stands for each aggregate literal in use. The text's answer sets, restricted to the table's atoms,
  * are the table's, each from exactly one of the text's. Refused as by saucepebbly_solve, without 10; then, if the buffer is too short, by 16. */
 uint32_t saucepebbly_write_aspif(const int32_t *words, size_t words_len, uint8_t *text, size_t text_len,
-                                 uint32_t *report, size_t report_len);
+                                 uint32_t *report, size_t report_len, uint16_t *lists);
 
 /* Sessions. A session keeps a table and at most 64 pins, in memory that the caller lends: SAUCEPEBBLY_SESSION_WORDS words of 32 bits, which are
  * 65,800 bytes, aligned to 4. It has its own copy of the words, so the caller's buffer is free again after saucepebbly_open. What stands in the

@@ -55,11 +55,11 @@ class Refused(Exception):
     pass
 
 
-def call(entry, *parts):
+def call(entry, *parts, memory=()):
     """The kind and the first number of the report."""
     report = (ctypes.c_uint32 * 2)()
     flat = [x for part in parts for x in (part if isinstance(part, tuple) else (part,))]
-    kind = entry(*flat, report, ctypes.c_size_t(2))
+    kind = entry(*flat, report, ctypes.c_size_t(2), *memory)
     if kind == 3:
         raise Refused(report[0], report[1])
     return kind, report[0]
@@ -72,7 +72,7 @@ def read(text):
 
 
 def write(words):
-    _, count = call(DOCK.saucepebbly_write_aspif, array(ctypes.c_int32, words), (BUFFER, ctypes.c_size_t(len(BUFFER))))
+    _, count = call(DOCK.saucepebbly_write_aspif, array(ctypes.c_int32, words), (BUFFER, ctypes.c_size_t(len(BUFFER))), memory=(LISTS,))
     return ctypes.string_at(BUFFER, count).decode()
 
 

@@ -12,7 +12,7 @@
 static uint8_t text[1 << 22];
 static int32_t words[WORDS];
 
-/* The memory that solving works in. */
+/* The memory that solving and writing work in. */
 static uint16_t lists[SAUCEPEBBLY_LISTS];
 static uint32_t candidates[SAUCEPEBBLY_CANDIDATES];
 
@@ -54,7 +54,7 @@ static int write_table(void) {
     while (count < WORDS && scanf("%d", &word) == 1) {
         words[count++] = (int32_t)word;
     }
-    if (saucepebbly_write_aspif(words, count, text, sizeof text, report, 2) == SAUCEPEBBLY_REFUSED) {
+    if (saucepebbly_write_aspif(words, count, text, sizeof text, report, 2, lists) == SAUCEPEBBLY_REFUSED) {
         return refused("table", report);
     }
     return fwrite(text, 1, report[0], stdout) != report[0];

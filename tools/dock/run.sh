@@ -45,6 +45,10 @@ target/dock/runs tables both <crates/run_tables/stdin
 target/dock/runs texts both <crates/run_texts/stdin
 target/dock/runs whys both <crates/run_why/stdin
 target/dock/runs passes both <tools/dock/passes/stdin
+target/dock/runs read <crates/run_aspif_read/stdin | cmp - crates/run_aspif_read/stdout
+echo "dock: $(wc -l <crates/run_aspif_read/stdout) texts of aspif read through C: as expected"
+target/dock/runs write <crates/run_aspif_write/stdin | cmp - crates/run_aspif_write/stdout
+echo "dock: $(grep -c "^wrote\|^refused" crates/run_aspif_write/stdout) tables written as aspif through C: as expected"
 if command -v cc >/dev/null && command -v rustc >/dev/null; then
     sh examples/test.sh
 else

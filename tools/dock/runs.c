@@ -1,4 +1,4 @@
-/* Runs the gate's tables and texts over the compiled library: runs tables | runs texts | runs whys | runs passes | runs lists | runs all. Input from standard input, a line
+/* Runs the gate's tables and texts over the compiled library: runs tables | runs texts | runs whys | runs passes | runs lists | runs all | runs read | runs write. Input from standard input, a line
  * for each case to standard output, as the programs that the gate runs print them; of passes, as tools/passes.py tells, of lists and all, as tools/lists.py. With one word
  * more, as runs tables both, each table goes through the plain engine too: one line then says how many there were, and the status is 0 only if the two engines differ on
  * none. Needs no header of the C library, so that the kit's own compiler builds it. */
@@ -405,9 +405,98 @@ static void run_texts(int is_why, size_t places) {
     }
 }
 
+/* ---- aspif, as crates/run_aspif_read and crates/run_aspif_write have it */
+
+static long next_decimal(void) {
+    long value = 0;
+    int b = next_byte();
+    if (b < 0)
+        return -1;
+    for (; b >= '0' && b <= '9'; b = next_byte())
+        value = value * 10 + (b - '0');
+    return value;
+}
+
+/* A text and a buffer of so many words, -7 everywhere: the words, or the refusal, and how many words are as before. */
+static void read_aspif(size_t n, size_t room) {
+    uint32_t report[2];
+    size_t kept = 0;
+    for (size_t i = 0; i < room; i++)
+        words[i] = -7;
+    if (saucepebbly_read_aspif(bytes, n, words, room, report, 2) == SAUCEPEBBLY_REFUSED)
+        put_refusal(report);
+    else {
+        put_text("wrote");
+        put_number(report[0]);
+        put(':');
+        for (size_t i = 0; i < report[0]; i++) {
+            if (words[i] < 0)
+                put_text(" -1"); /* the only word below 0 that a table of the reader has */
+            else
+                put_number((unsigned long)words[i]);
+        }
+    }
+    for (size_t i = 0; i < room; i++)
+        kept += words[i] == -7;
+    put_text(" /");
+    put_number(kept);
+    put('\n');
+}
+
+static void read_aspifs(void) {
+    for (;;) {
+        long room = next_decimal(), n = next_decimal();
+        if (room < 0 || n < 0 || room > 32768 || n > 65536)
+            return;
+        for (long i = 0; i < n; i++)
+            bytes[i] = (uint8_t)next_byte();
+        read_aspif((size_t)n, (size_t)room);
+    }
+}
+
+/* A table and a buffer of so many bytes, `#` everywhere: the result and the buffer. */
+static void write_aspif(size_t count, size_t room) {
+    static uint8_t text[65536];
+    uint32_t report[2];
+    for (size_t i = 0; i < room; i++)
+        text[i] = '#';
+    soil();
+    if (saucepebbly_write_aspif(words, count, text, room, report, 2, lists) == SAUCEPEBBLY_REFUSED)
+        put_refusal(report);
+    else {
+        put_text("wrote");
+        put_number(report[0]);
+    }
+    put('\n');
+    for (size_t i = 0; i < room; i++)
+        put((char)text[i]);
+    put('\n');
+}
+
+static void write_aspifs(void) {
+    for (;;) {
+        uint32_t room, place;
+        size_t n = 0, count;
+        for (int i = 0; i < 4; i++) {
+            int b = next_byte();
+            if (b < 0)
+                return;
+            n |= (size_t)b << (8 * i);
+        }
+        for (size_t i = 0; i < n && i < sizeof bytes; i++)
+            bytes[i] = (uint8_t)next_byte();
+        if (read_text(n, &room, &count, &place) == 0 && room <= 65536)
+            write_aspif(count, room);
+    }
+}
+
 int main(int argc, char **argv) {
     is_both = argc == 3;
-    if (argc >= 2 && argv[1][0] == 'w')
+    if (argc >= 2 && argv[1][0] == 'r')
+        read_aspifs();
+    else if (argc >= 2 && argv[1][0] == 'w' && argv[1][1] == 'r')
+        write_aspifs();
+    else if (argc >= 2 && argv[1][0] == 'w')
         run_texts(1, 2);
     else if (argc >= 2 && argv[1][0] == 'p')
         run_texts(0, 3);

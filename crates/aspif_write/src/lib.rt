@@ -1,4 +1,4 @@
-// Writing aspif (02, "Write aspif"): any accepted table as a text of the public ASP intermediate format. `write` asks nothing of its caller. The text is
+// Writing aspif (02, "Write aspif"): any accepted table as a text of the public ASP intermediate format. `write` and `write_with` ask nothing of their caller. The text is
 // laid twice by the same functions: first into no buffer, to find its length, so that a buffer that is too short stays as it is. The work is linear in
 // the table and in the text; besides the places of the table there are 256 bytes of local memory, the new atoms. Meaning: `specs/Promise.antt`; that the
 // promise has one answer only: `proofs/Unique.antt`.
@@ -11,6 +11,7 @@ ghost use Rattle.aspif_parts.specs.Held.{heldBy};
 ghost use Rattle.aspif_parts.specs.Uses.{NewAtoms};
 ghost use Rattle.aspif_write.specs.Laying.{Laying};
 ghost use Rattle.aspif_write.specs.Promise.{Writes};
+use heads::Lists;
 use judging::Buffer;
 use layout::Table;
 use results::Refusal;
@@ -43,11 +44,12 @@ fn write_laid(t: &[i32], tb: Table, text: &mut [u8]) -> Written
     Written::Wrote(wrote)
 }
 
-// The table as aspif at the front of the buffer: how much was written, the rest being kept; or a refusal, and then the whole buffer is kept.
-pub fn write(words: &[i32], text: &mut [u8]) -> Written
+// The table as aspif at the front of the buffer: how much was written, the rest being kept; or a refusal, and then the whole buffer is kept. The memory
+// of the judge is lent: nothing is said of what it holds before or after, and nothing depends on it.
+pub fn write_with(words: &[i32], text: &mut [u8], lists: &mut Lists) -> Written
     ensures { λ r. ⌜ Writes (now (words .entry)) (now (text .entry)) (now (text .exit)) r ⌝ }
 {
-    let judged = judging::judge(words, Buffer::Nothing);
+    let judged = judging::judge_by(words, Buffer::Nothing, lists);
     let fault = judged.fault;
     match fault {
         Fault::Refused(f) => Written::Refused(f),
@@ -56,4 +58,12 @@ pub fn write(words: &[i32], text: &mut [u8]) -> Written
             write_laid(words, tb, text)
         }
     }
+}
+
+// The same with memory of its own.
+pub fn write(words: &[i32], text: &mut [u8]) -> Written
+    ensures { λ r. ⌜ Writes (now (words .entry)) (now (text .entry)) (now (text .exit)) r ⌝ }
+{
+    let mut lists = [0u16; heads::SIZE];
+    write_with(words, text, &mut lists)
 }

@@ -7,8 +7,8 @@ use Rattle.dock.specs.Reading.{readFirst}
 use Rattle.dock.proofs.writing.saucepebbly_write_aspif.Statement.{statement}
 use Rattle.dock.proofs.writing.saucepebbly_write_aspif.Tie as tie
 
-write-requires : tie.Need-write-requires
-write-requires c κs = search needs
+write-with-requires : tie.Need-write-with-requires
+write-with-requires c κs = search needs
 
 read-first-requires : tie.Need-read-first-requires
 read-first-requires c κs = search needs
@@ -16,8 +16,8 @@ read-first-requires c κs = search needs
 read-second-requires : tie.Need-read-second-requires
 read-second-requires c κs = search needs
 
-write-requires-2 : tie.Need-write-requires-2
-write-requires-2 c κs = search needs
+write-requires : tie.Need-write-requires
+write-requires c κs = search needs
 
 read-kind-requires : tie.Need-read-kind-requires
 read-kind-requires c κs = search needs
@@ -34,23 +34,23 @@ returns c =
     let s = w .before .before in
     let f = s .before in
     let r = f .before .before .before in
-    let q = r .write .result in
-    let old = r .before .before .before .before .args .report .now in
+    let q = r .write-with .result in
+    let old = r .before .before .before .before .before .args .report .now in
     record {
       result = q;
-      writes = r .write .ensures;
+      writes = r .write-with .ensures;
       kind = c .read-kind .ensures;
-      report = w .write2 .ensures ∙ ap (λ (m : ℕ). reported m (s .read-second .result) old) (f .read-first .ensures) ∙ ap (λ (n : ℕ). reported (readFirst q) n old) (s .read-second .ensures);
+      report = w .write .ensures ∙ ap (λ (m : ℕ). reported m (s .read-second .result) old) (f .read-first .ensures) ∙ ap (λ (n : ℕ). reported (readFirst q) n old) (s .read-second .ensures);
     }
 
 pub saucepebbly-write-aspif-spec : {M : Type 1} → statement M
 saucepebbly-write-aspif-spec =
     tie.close
     (tie.spec
-    write-requires
+    write-with-requires
     read-first-requires
     read-second-requires
-    write-requires-2
+    write-requires
     read-kind-requires
     same-length
     same-length-2
