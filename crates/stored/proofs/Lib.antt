@@ -1,0 +1,10 @@
+-- Laws of the stored form.
+pub mod Forms
+pub mod Steps
+pub mod Leading
+pub mod Laying
+pub mod NameLaws
+pub mod Exact
+pub mod Going
+pub mod Storing
+pub mod Unique
