@@ -81,19 +81,21 @@ module _ (bs : List ℕ) (ws : List ℤ) (xs : List (List ℕ)) where
         let y = table-sound 0 (w ∷ vs) c (d .end) [] (ap (λ (F : Format Contents). run F 0 (w ∷ vs)) table-is ∙ run-good (count 256) (λ v. sections (natAbs v)) 0 w vs (n .good) ∙ d .words) in
         let z : w ∷ vs ≡ encode c = y .there ∙ append-nil (encode c) in
         let f = first-word c w vs z in
-        let o : natAbs w ≡ c .atoms = ap natAbs (f .0) in
-        (c, record {
-          range = y .range;
-          all = sym (ap length (same-names g)) ∙ a .1 ∙ o;
-          short = subst Short (same-names g) (a .2);
-          words = sym (same-words g) ∙ z;
-          stands =
-              n .stands
-              ∙ ap (λ (l : List ℕ). two (natAbs w) ++ l) (a .0 ∙ ap (λ (l : List ℕ). namesBytes ys ++ l) (d .stands ∙ append-nil (laid (sections (natAbs w)) vs)))
-              ∙ ap (λ (l : ℕ). two l ++ (namesBytes ys ++ laid (sections l) vs)) o
-              ∙ ap (λ (l : List ℤ). two (c .atoms) ++ (namesBytes ys ++ laid (sections (c .atoms)) l)) (f .1)
-              ∙ ap (λ (l : List (List ℕ)). two (c .atoms) ++ (namesBytes l ++ laid (sections (c .atoms)) (drop 1 (encode c)))) (same-names g);
-        })
+        let o : natAbs w ≡ c .atoms = ap natAbs (f .0) in (
+          c,
+          record {
+            range = y .range;
+            all = sym (ap length (same-names g)) ∙ a .1 ∙ o;
+            short = subst Short (same-names g) (a .2);
+            words = sym (same-words g) ∙ z;
+            stands =
+                n .stands
+                ∙ ap (λ (l : List ℕ). two (natAbs w) ++ l) (a .0 ∙ ap (λ (l : List ℕ). namesBytes ys ++ l) (d .stands ∙ append-nil (laid (sections (natAbs w)) vs)))
+                ∙ ap (λ (l : ℕ). two l ++ (namesBytes ys ++ laid (sections l) vs)) o
+                ∙ ap (λ (l : List ℤ). two (c .atoms) ++ (namesBytes ys ++ laid (sections (c .atoms)) l)) (f .1)
+                ∙ ap (λ (l : List (List ℕ)). two (c .atoms) ++ (namesBytes l ++ laid (sections (c .atoms)) (drop 1 (encode c)))) (same-names g);
+          },
+        )
 
     pub held-encodes : (c : Contents) × Encodes bs ws xs c
     held-encodes = at (stepOf (count 256) 0 bs) refl

@@ -115,13 +115,12 @@ four-written (x ∷ y ∷ z ∷ w ∷ bs) n rest b e =
     let f = d .1 in
     let g = d′ .1 in
     let h = d″ .1 in
-    let k : w ≡ n / 256 / 256 / 256 % 256 = parts (n / 256 / 256 / 256) w 0 (let z = d″ .0 in omega arith) v′ .1 in
-    (
+    let k : w ≡ n / 256 / 256 / 256 % 256 = parts (n / 256 / 256 / 256) w 0 (let z = d″ .0 in omega arith) v′ .1 in (
       ap (λ (m : ℕ). m ∷ y ∷ z ∷ w ∷ bs) f
-      ∙ ap (λ (m : ℕ). n % 256 ∷ m ∷ z ∷ w ∷ bs) g
-      ∙ ap (λ (m : ℕ). n % 256 ∷ n / 256 % 256 ∷ m ∷ w ∷ bs) h
-      ∙ ap (λ (m : ℕ). n % 256 ∷ n / 256 % 256 ∷ n / 256 / 256 % 256 ∷ m ∷ bs) k
-      ∙ ap (λ (l : List ℕ). four n ++ l) q,
+          ∙ ap (λ (m : ℕ). n % 256 ∷ m ∷ z ∷ w ∷ bs) g
+          ∙ ap (λ (m : ℕ). n % 256 ∷ n / 256 % 256 ∷ m ∷ w ∷ bs) h
+          ∙ ap (λ (m : ℕ). n % 256 ∷ n / 256 % 256 ∷ n / 256 / 256 % 256 ∷ m ∷ bs) k
+          ∙ ap (λ (l : List ℕ). four n ++ l) q,
       omega arith,
       subst Bytes q (b .1 .1 .1 .1),
     )

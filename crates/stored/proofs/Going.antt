@@ -87,8 +87,7 @@ module _ (t : List ℤ) (c : Contents) (e : contentsOf t ≡ accepted c) where
       let f = first-word c (x .w) (x .after) (sym (x .there) ∙ d .words) in
       let o : natAbs (x .w) ≡ c .atoms = ap natAbs (f .0) in
       let l : length t ≡ suc (length (x .after)) = ap length (x .there) in
-      let n : g .0 ≡ length t = let y = run-length table 0 t c (g .0) [] r in omega arith in
-      (
+      let n : g .0 ≡ length t = let y = run-length table 0 t c (g .0) [] r in omega arith in (
         ap (λ (m : ℕ). run (sections m) 1 (drop 1 t)) (sym o) ∙ ap (λ (v : List ℤ). run (sections (natAbs (x .w))) 1 (drop 1 v)) (x .there) ∙ x .on ∙ ap (λ (m : ℕ). read c m []) n,
         omega arith,
         d .range .fewAtoms,

@@ -237,15 +237,14 @@ module _ {A : Type 0} where
       let n = number-read a i w (laid (next w) (t .after) ++ rest) (l .0) (ap (λ (r : Role). fault r i w) (l .1) ∙ g) in
       let s : stepOf role i (numberBytes role w ++ (laid (next w) (t .after) ++ rest)) ≡ go w (i + widthOf a) (laid (next w) (t .after) ++ rest) =
       subst (λ (r : Role). stepOf r i (numberBytes r w ++ (laid (next w) (t .after) ++ rest)) ≡ go w (i + widthOf a) (laid (next w) (t .after) ++ rest)) (l .1) n in
-      let r = scan-laid top (pointAfter p (natAbs w)) (next w) Q (suc k) (i + widthOf a) (t .after) x m rest (l .2 w (λ q. any-place role k q w (t .good))) (t .on) in
-      (
+      let r = scan-laid top (pointAfter p (natAbs w)) (next w) Q (suc k) (i + widthOf a) (t .after) x m rest (l .2 w (λ q. any-place role k q w (t .good))) (t .on) in (
         r .0,
         ap (λ (v : List ℤ). scan (word role next) i (laid (word role next) v ++ rest)) (t .there)
-        ∙ ap (λ (b : List ℕ). scan (word role next) i (b ++ rest)) (laid-on role next w (t .after))
-        ∙ ap (scan (word role next) i) (append-assoc (numberBytes role w) (laid (next w) (t .after)) rest)
-        ∙ scan-on role next i _ w _ _ s
-        ∙ ap (after w) (r .1)
-        ∙ ap (λ (v : List ℤ). taken v (r .0) rest) (sym (t .there)),
+            ∙ ap (λ (b : List ℕ). scan (word role next) i (b ++ rest)) (laid-on role next w (t .after))
+            ∙ ap (scan (word role next) i) (append-assoc (numberBytes role w) (laid (next w) (t .after)) rest)
+            ∙ scan-on role next i _ w _ _ s
+            ∙ ap (after w) (r .1)
+            ∙ ap (λ (v : List ℤ). taken v (r .0) rest) (sym (t .there)),
       )
 
   -- ---- read, then laid

@@ -40,13 +40,12 @@ name-after i bs s e = ap nameAfter e
 name-read : (i : ℕ) (x rest : List ℕ) → length x ≤ 32 → (j : ℕ) × (nameOf i (two (length x) ++ (x ++ rest)) ≡ name x j rest)
 name-read i x rest h =
     let s = number-read (asked.Count 32) i (pos (length x)) (x ++ rest) (omega arith) (count-in 32 i (pos (length x)) refl h) in
-    let l = length-append x rest in
-    (
+    let l = length-append x rest in (
       i + 2 + length x,
       name-after i (two (length x) ++ (x ++ rest)) _ s
-      ∙ ap (λ (b : Bool). nameBy b (length x) (i + 2) (x ++ rest)) (le-leb (length x) (length (x ++ rest)) (omega arith))
-      ∙ ap (λ (y : List ℕ). name y (i + 2 + length x) (drop (length x) (x ++ rest))) (take-append-seam x rest)
-      ∙ ap (name x (i + 2 + length x)) (drop-append-seam x rest),
+          ∙ ap (λ (b : Bool). nameBy b (length x) (i + 2) (x ++ rest)) (le-leb (length x) (length (x ++ rest)) (omega arith))
+          ∙ ap (λ (y : List ℕ). name y (i + 2 + length x) (drop (length x) (x ++ rest))) (take-append-seam x rest)
+          ∙ ap (name x (i + 2 + length x)) (drop-append-seam x rest),
     )
 
 pub names-read : (i : ℕ) (xs : List (List ℕ)) (rest : List ℕ) → Short xs → (j : ℕ) × (namesOf (length xs) i (namesBytes xs ++ rest) ≡ names xs j rest)
@@ -121,11 +120,10 @@ name-written i bs x j rest b e =
     let s = spelt i bs x j rest e in
     let n = number-written (asked.Count 32) i bs (s .w) (s .q) (s .left) (omega arith) b (s .step) in
     let k = spelt-length i bs x j rest s in
-    let c = count-good 32 i (s .w) (n .good) .1 in
-    (
+    let c = count-good 32 i (s .w) (n .good) .1 in (
       n .stands
-      ∙ ap (λ (m : ℕ). two m ++ s .left) (sym k)
-      ∙ ap (λ (l : List ℕ). two (length x) ++ l) (sym (take-append-drop (natAbs (s .w)) (s .left)) ∙ ap (λ (l : List ℕ). l ++ drop (natAbs (s .w)) (s .left)) (sym (s .is)) ∙ ap (λ (l : List ℕ). x ++ l) (sym (s .after))),
+          ∙ ap (λ (m : ℕ). two m ++ s .left) (sym k)
+          ∙ ap (λ (l : List ℕ). two (length x) ++ l) (sym (take-append-drop (natAbs (s .w)) (s .left)) ∙ ap (λ (l : List ℕ). l ++ drop (natAbs (s .w)) (s .left)) (sym (s .is)) ∙ ap (λ (l : List ℕ). x ++ l) (sym (s .after))),
       omega arith,
       subst Bytes (sym (s .is)) (bytes-take (natAbs (s .w)) (s .left) (n .bytes)),
       subst Bytes (sym (s .after)) (bytes-drop (natAbs (s .w)) (s .left) (n .bytes)),
@@ -149,8 +147,7 @@ nameless≢names e = absurd (subst T (ap areNames (sym e)) tt)
 pub names-written : (n i : ℕ) (bs : List ℕ) (xs : List (List ℕ)) (j : ℕ) (rest : List ℕ) → Bytes bs → namesOf n i bs ≡ names xs j rest
     → (bs ≡ namesBytes xs ++ rest) × (length xs ≡ n) × Short xs × Bytes rest
 names-written zero i bs xs j rest b e =
-    let g : names [] i bs ≡ names xs j rest = sym (names-nil i bs) ∙ e in
-    (
+    let g : names [] i bs ≡ names xs j rest = sym (names-nil i bs) ∙ e in (
       ap pastIn g ∙ ap (λ (ys : List (List ℕ)). namesBytes ys ++ rest) (ap namesIn g),
       sym (ap (λ (s : Names). length (namesIn s)) g),
       subst Short (ap namesIn g) tt,
@@ -169,13 +166,12 @@ names-written (suc n) i bs xs j rest b e = at (nameOf i bs) refl (λ q r ys m le
         on (names ys m left) h =
             let g : names (x ∷ ys) m left ≡ names xs j rest = ap (nameFirst x) (sym h) ∙ sym (names-on n i bs x q r s) ∙ e in
             let w = name-written i bs x q r b s in
-            let d = f q r ys m left (w .3) h in
-            (
+            let d = f q r ys m left (w .3) h in (
               w .0
-              ∙ ap (λ (l : List ℕ). two (length x) ++ (x ++ l)) (d .0)
-              ∙ sym (append-assoc (two (length x)) (x ++ namesBytes ys) left ∙ ap (λ (l : List ℕ). two (length x) ++ l) (append-assoc x (namesBytes ys) left))
-              ∙ ap (λ (zs : List (List ℕ)). namesBytes zs ++ left) (ap namesIn g)
-              ∙ ap (λ (l : List ℕ). namesBytes xs ++ l) (ap pastIn g),
+                  ∙ ap (λ (l : List ℕ). two (length x) ++ (x ++ l)) (d .0)
+                  ∙ sym (append-assoc (two (length x)) (x ++ namesBytes ys) left ∙ ap (λ (l : List ℕ). two (length x) ++ l) (append-assoc x (namesBytes ys) left))
+                  ∙ ap (λ (zs : List (List ℕ)). namesBytes zs ++ left) (ap namesIn g)
+                  ∙ ap (λ (l : List ℕ). namesBytes xs ++ l) (ap pastIn g),
               sym (ap (λ (t : Names). length (namesIn t)) g) ∙ ap suc (d .1),
               subst Short (ap namesIn g) (w .1, w .2, d .2),
               subst Bytes (ap pastIn g) (d .3),

@@ -22,13 +22,13 @@ enum-told : tie.Need-enum-told
 enum-told c = search needs
 
 store-held-requires : tie.Need-store-held-requires
-store-held-requires c κs = 
+store-held-requires c κs =
     let e = c .before in
     let h = judged-taken (e .before .before .before .before .args .words .now) Nothing (e .before .before .judge .result) (e .before .before .judge .ensures) (e .enum-told .given .1) in
     (h .0, h .1 .holds)
 
 returns : tie.Need-returns
-returns c = 
+returns c =
     let j = c .before .before .before in
     let a = c .before .before .before .before .before .args in
     let f = c .before .fault .given in
@@ -38,7 +38,7 @@ same-length : tie.Need-same-length
 same-length c = search needs
 
 returns-2 : tie.Need-returns-2
-returns-2 c = 
+returns-2 c =
     let w = c .before .before in
     let e = w .before .before in
     let a = e .before .before .before .before .args in

@@ -17,10 +17,10 @@ put-table-requires : tie.Need-put-table-requires
 put-table-requires c κs = search needs
 
 returns : tie.Need-returns
-returns c = 
+returns c =
     λ d e.
-        let m = c .before .before .put-table .ensures d e .ends in
-        record { fits = λ h. absurd (omega (arith, c .if1 .taken)); short = λ h. (refl, refl) }
+    let m = c .before .before .put-table .ensures d e .ends in
+    record { fits = λ h. absurd (omega (arith, c .if1 .taken)); short = λ h. (refl, refl) }
 
 put-table-requires-2 : tie.Need-put-table-requires-2
 put-table-requires-2 c κs = search needs
@@ -29,12 +29,12 @@ same-length : tie.Need-same-length
 same-length c = search needs
 
 returns-2 : tie.Need-returns-2
-returns-2 c = 
+returns-2 c =
     λ d e.
-        let m = c .before .before .before .before .before .before .put-table .ensures d e .ends in
-        let q = c .before .before .put-table2 .ensures d e in
-        let k = c .before .before .before .before .if1 .left in
-        record { fits = λ h. (ap result.Wrote (put-length q h), put-whole q h); short = λ h. absurd (omega arith) }
+    let m = c .before .before .before .before .before .before .put-table .ensures d e .ends in
+    let q = c .before .before .put-table2 .ensures d e in
+    let k = c .before .before .before .before .if1 .left in
+    record { fits = λ h. (ap result.Wrote (put-length q h), put-whole q h); short = λ h. absurd (omega arith) }
 
 pub store-held-spec : {M : Type 1} → statement M
 store-held-spec =

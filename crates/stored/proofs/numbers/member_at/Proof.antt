@@ -20,19 +20,19 @@ two-at-requires : tie.Need-two-at-requires
 two-at-requires c κs = search needs
 
 returns-2 : tie.Need-returns-2
-returns-2 c = 
+returns-2 c =
     let a = c .before .before .before .before .args in
     let h : a .at + 2 ≤ length (a .bytes .now) = omega (arith, c .before .before .before .before .pre, c .before .before .if1 .left) in
     member-none (a .bytes .now) (a .at) (c .before .two-at .result) h (c .before .two-at .ensures) (a .top) (a .previous) (c .if2 .taken)
 
 returns-3 : tie.Need-returns-3
-returns-3 c = 
+returns-3 c =
     let a = c .before .before .before .before .before .args in
     let h : a .at + 2 ≤ length (a .bytes .now) = omega (arith, c .before .before .before .before .before .pre, c .before .before .before .if1 .left) in
     member-beyond (a .bytes .now) (a .at) (c .before .before .two-at .result) h (c .before .before .two-at .ensures) (a .top) (a .previous) (c .if3 .taken)
 
 returns-4 : tie.Need-returns-4
-returns-4 c = 
+returns-4 c =
     let a = c .before .before .before .before .before .before .args in
     let h : a .at + 2 ≤ length (a .bytes .now) = omega (arith, c .before .before .before .before .before .before .pre, c .before .before .before .before .if1 .left) in
     member-descent (a .bytes .now) (a .at) (c .before .before .before .two-at .result) h (c .before .before .before .two-at .ensures) (a .top) (a .previous) (omega (arith, c .before .before .if2 .left)) (c .before .if3 .left) (c .if4 .taken)
@@ -41,7 +41,7 @@ add-next : tie.Need-add-next
 add-next c = search needs
 
 returns-5 : tie.Need-returns-5
-returns-5 c = 
+returns-5 c =
     let a = c .before .before .before .before .before .before .args in
     let h : a .at + 2 ≤ length (a .bytes .now) = omega (arith, c .before .before .before .before .before .before .pre, c .before .before .before .before .if1 .left) in
     member-got (a .bytes .now) (a .at) (c .before .before .before .two-at .result) h (c .before .before .before .two-at .ensures) (a .top) (a .previous) (c .before .if3 .left) (c .if4 .left)

@@ -20,7 +20,7 @@ two-at-requires : tie.Need-two-at-requires
 two-at-requires c κs = search needs
 
 returns-2 : tie.Need-returns-2
-returns-2 c = 
+returns-2 c =
     let a = c .before .before .before .before .args in
     let h : a .at + 2 ≤ length (a .bytes .now) = omega (arith, c .before .before .before .before .pre, c .before .before .if1 .left) in
     quantity-beyond (a .bytes .now) (a .at) (c .before .two-at .result) h (c .before .two-at .ensures) (a .high) (c .if2 .taken)
@@ -29,7 +29,7 @@ add-next : tie.Need-add-next
 add-next c = search needs
 
 returns-3 : tie.Need-returns-3
-returns-3 c = 
+returns-3 c =
     let a = c .before .before .before .before .args in
     let h : a .at + 2 ≤ length (a .bytes .now) = omega (arith, c .before .before .before .before .pre, c .before .before .if1 .left) in
     quantity-got (a .bytes .now) (a .at) (c .before .two-at .result) h (c .before .two-at .ensures) (a .high) (c .if2 .left)

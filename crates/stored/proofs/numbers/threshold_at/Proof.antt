@@ -23,19 +23,19 @@ add-next : tie.Need-add-next
 add-next c = search needs
 
 returns-2 : tie.Need-returns-2
-returns-2 c = 
+returns-2 c =
     let a = c .before .before .before .before .args in
     let h : a .at + 4 ≤ length (a .bytes .now) = omega (arith, c .before .before .before .before .pre, c .before .before .if1 .left) in
     threshold-below (a .bytes .now) (a .at) (c .before .four-at .result) h (c .before .four-at .ensures .0) (c .if2 .taken)
 
 returns-3 : tie.Need-returns-3
-returns-3 c = 
+returns-3 c =
     let a = c .before .before .before .before .before .args in
     let h : a .at + 4 ≤ length (a .bytes .now) = omega (arith, c .before .before .before .before .before .pre, c .before .before .before .if1 .left) in
     threshold-beyond (a .bytes .now) (a .at) (c .before .before .four-at .result) h (c .before .before .four-at .ensures .0) (c .before .before .four-at .ensures .1) (c .before .if2 .left) (c .if3 .taken)
 
 returns-4 : tie.Need-returns-4
-returns-4 c = 
+returns-4 c =
     let a = c .before .before .before .before .before .args in
     let h : a .at + 4 ≤ length (a .bytes .now) = omega (arith, c .before .before .before .before .before .pre, c .before .before .before .if1 .left) in
     threshold-got (a .bytes .now) (a .at) (c .before .before .four-at .result) h (c .before .before .four-at .ensures .0) (c .if3 .left)

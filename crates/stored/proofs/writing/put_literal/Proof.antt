@@ -26,7 +26,7 @@ same-length : tie.Need-same-length
 same-length c = search needs
 
 returns : tie.Need-returns
-returns c = 
+returns c =
     let a = c .before .before .before .before .before .before .args in
     let p = c .before .before .put-two in
     let e : 2 * a .n + 1 ≡ twice (signed (a .minus) (a .n)) = sym (ap (λ (s : Bool). twice (signed s (a .n))) (c .before .before .before .before .if1 .taken) ∙ twice-minus (a .n) (c .before .before .before .before .before .before .pre .1 (c .before .before .before .before .if1 .taken))) in
@@ -39,7 +39,7 @@ same-length-2 : tie.Need-same-length-2
 same-length-2 c = search needs
 
 returns-2 : tie.Need-returns-2
-returns-2 c = 
+returns-2 c =
     let a = c .before .before .before .before .before .before .args in
     let p = c .before .before .put-two2 in
     let e : 2 * a .n ≡ twice (signed (a .minus) (a .n)) = sym (ap (λ (s : Bool). twice (signed s (a .n))) (c .before .before .before .before .if1 .left)) in

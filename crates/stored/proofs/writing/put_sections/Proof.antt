@@ -28,7 +28,6 @@ use Rattle.stored.proofs.points.step.Reads as step-reads
 use Rattle.stored.proofs.writing.put_word.Reads as put-word-reads
 use Rattle.words.proofs.below.Reads as below-reads
 use Rattle.words.proofs.size.Reads as size-reads
-
 use borrow.Author.Needs.{needs}
 
 abbrev Inv-loop : tie.InvT-loop
@@ -126,11 +125,10 @@ loop-again c =
     ∙ bytes-by p z (o .fits) in
     let put = subst (λ (bs : List ℕ). Put (l .loop .out) (l .loop .to) bs (w .put-word .result) (w .put-word .last .1 .1 .1 .1 .0)) e (w .put-word .ensures) in
     let g = o .on (w .put-word .result) (w .put-word .last .1 .1 .1 .1 .0) put in
-    let f : pointAfter (l .loop .point) (natAbs z) ≡ c .step .result = sym (c .step .ensures ∙ ap (pointAfter (l .loop .point)) (sized s)) in
-    (
+    let f : pointAfter (l .loop .point) (natAbs z) ≡ c .step .result = sym (c .step .ensures ∙ ap (pointAfter (l .loop .point)) (sized s)) in (
       omega (arith, i .loop-test .taken),
       subst (λ (x : Point). Going (a .t .now) (a .top) (a .out .now) (a .at) (w .put-word .last .1 .1 .1 .1 .0) (w .put-word .result) (l .loop .k + 1) x) f
-      (subst (λ (m : ℕ). Going (a .t .now) (a .top) (a .out .now) (a .at) (w .put-word .last .1 .1 .1 .1 .0) (w .put-word .result) m (pointAfter (l .loop .point) (natAbs z))) (sym (add-one (l .loop .k))) g),
+          (subst (λ (m : ℕ). Going (a .t .now) (a .top) (a .out .now) (a .at) (w .put-word .last .1 .1 .1 .1 .0) (w .put-word .result) m (pointAfter (l .loop .point) (natAbs z))) (sym (add-one (l .loop .k))) g),
     )
 
 same-length : tie.Need-same-length Inv-loop μ-loop

@@ -31,14 +31,14 @@ same-length : tie.Need-same-length
 same-length c = search needs
 
 returns : tie.Need-returns
-returns c = 
+returns c =
     let s = c .before .before .before .before .before .before .before .before .before .before .before .before .before .before in
     let x = c .before .before .before .before .before .before .before .before .before .before .put-two .ensures in
     let y = c .before .before .before .before .before .before .put-names .ensures in
     let z = c .before .before .put-sections in
     λ d e.
-        subst (λ (bs : List ℕ). Put (s .args .out .now) 0 bs (z .result) (z .last .1 .1 .1 .0)) (table-bytes (s .args .t .now) d e (c .before .before .before .before .before .before .before .before .before .before .before .before .atom .result) (c .before .before .before .before .before .before .before .before .before .before .before .before .atom .ensures))
-        (put-then x (put-then y (z .ensures)))
+    subst (λ (bs : List ℕ). Put (s .args .out .now) 0 bs (z .result) (z .last .1 .1 .1 .0)) (table-bytes (s .args .t .now) d e (c .before .before .before .before .before .before .before .before .before .before .before .before .atom .result) (c .before .before .before .before .before .before .before .before .before .before .before .before .atom .ensures))
+    (put-then x (put-then y (z .ensures)))
 
 pub put-table-spec : {M : Type 1} → statement M
 put-table-spec =

@@ -23,7 +23,7 @@ same-length : tie.Need-same-length
 same-length c = search needs
 
 returns : tie.Need-returns
-returns c = 
+returns c =
     let a = c .before .before .before .before .before .before .args in
     let p = c .before .before .put-four in
     let e : 4294967296 - a .n ≡ complement (signed (a .minus) (a .n)) = sym (ap (λ (s : Bool). complement (signed s (a .n))) (c .before .before .before .before .if1 .taken) ∙ complement-minus (a .n) (c .before .before .before .before .before .before .pre .1 (c .before .before .before .before .if1 .taken))) in
@@ -36,7 +36,7 @@ same-length-2 : tie.Need-same-length-2
 same-length-2 c = search needs
 
 returns-2 : tie.Need-returns-2
-returns-2 c = 
+returns-2 c =
     let a = c .before .before .before .before .before .before .args in
     let p = c .before .before .put-four2 in
     let e : a .n ≡ complement (signed (a .minus) (a .n)) = sym (ap (λ (s : Bool). complement (signed s (a .n))) (c .before .before .before .before .if1 .left)) in

@@ -54,7 +54,7 @@ same-length : tie.Need-same-length
 same-length c = search needs
 
 returns : tie.Need-returns
-returns c = 
+returns c =
     let a = c .before .before .before .before .before .before .before .args in
     let p = c .before .before .put-two in
     subst (λ (x : Asked). Put (a .out .now) (a .at) (bytesBy x (a .minus) (a .n)) (p .result) (p .last .1 .1 .0)) (sym (c .before .before .before .before .enum-told .given .1)) (p .ensures)
@@ -63,7 +63,7 @@ same-length-2 : tie.Need-same-length-2
 same-length-2 c = search needs
 
 returns-2 : tie.Need-returns-2
-returns-2 c = 
+returns-2 c =
     let a = c .before .before .before .before .before .before .before .args in
     let p = c .before .before .put-two2 in
     subst (λ (x : Asked). Put (a .out .now) (a .at) (bytesBy x (a .minus) (a .n)) (p .result) (p .last .1 .1 .0)) (sym (c .before .before .before .before .enum-told2 .given .1)) (p .ensures)
@@ -72,7 +72,7 @@ same-length-3 : tie.Need-same-length-3
 same-length-3 c = search needs
 
 returns-3 : tie.Need-returns-3
-returns-3 c = 
+returns-3 c =
     let a = c .before .before .before .before .before .before .before .args in
     let p = c .before .before .put-threshold in
     subst (λ (x : Asked). Put (a .out .now) (a .at) (bytesBy x (a .minus) (a .n)) (p .result) (p .last .1 .1 .1 .0)) (sym (c .before .before .before .before .enum-told3 .given .1)) (p .ensures)
@@ -81,7 +81,7 @@ same-length-4 : tie.Need-same-length-4
 same-length-4 c = search needs
 
 returns-4 : tie.Need-returns-4
-returns-4 c = 
+returns-4 c =
     let a = c .before .before .before .before .before .before .before .args in
     let p = c .before .before .put-two3 in
     subst (λ (x : Asked). Put (a .out .now) (a .at) (bytesBy x (a .minus) (a .n)) (p .result) (p .last .1 .1 .0)) (sym (c .before .before .before .before .enum-told4 .given .1)) (p .ensures)
@@ -90,7 +90,7 @@ same-length-5 : tie.Need-same-length-5
 same-length-5 c = search needs
 
 returns-5 : tie.Need-returns-5
-returns-5 c = 
+returns-5 c =
     let a = c .before .before .before .before .before .before .before .args in
     let p = c .before .before .put-literal in
     subst (λ (x : Asked). Put (a .out .now) (a .at) (bytesBy x (a .minus) (a .n)) (p .result) (p .last .1 .1 .1 .0)) (sym (c .before .before .before .before .enum-told5 .given .1)) (p .ensures)
@@ -99,7 +99,7 @@ same-length-6 : tie.Need-same-length-6
 same-length-6 c = search needs
 
 returns-6 : tie.Need-returns-6
-returns-6 c = 
+returns-6 c =
     let a = c .before .before .before .before .before .before .before .args in
     let p = c .before .before .put-two4 in
     subst (λ (x : Asked). Put (a .out .now) (a .at) (bytesBy x (a .minus) (a .n)) (p .result) (p .last .1 .1 .0)) (sym (c .before .before .before .before .enum-told6 .given .1)) (p .ensures)
