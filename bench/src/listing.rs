@@ -26,6 +26,7 @@ unsafe extern "C" {
         text_len: usize,
         report: *mut u32,
         report_len: usize,
+        lists: *mut u16,
     ) -> u32;
 }
 
@@ -45,9 +46,11 @@ fn list(words: &[i32], rows: &mut [u8]) -> (u32, [u32; 4]) {
 fn aspif(words: &[i32]) -> Vec<u8> {
     let mut text = vec![0; 1 << 20];
     let mut report = [0; 2];
+    let mut lists = [0; 17922];
     // SAFETY: as above.
     let kind = unsafe {
-        saucepebbly_write_aspif(words.as_ptr(), words.len(), text.as_mut_ptr(), text.len(), report.as_mut_ptr(), 2)
+        let (text, text_len) = (text.as_mut_ptr(), text.len());
+        saucepebbly_write_aspif(words.as_ptr(), words.len(), text, text_len, report.as_mut_ptr(), 2, lists.as_mut_ptr())
     };
     assert_eq!(kind, 0, "the table is written");
     text.truncate(report[0] as usize);
