@@ -5,8 +5,8 @@
 --   heldIn, pinsIn      how many pins are held (at index 16,385), and the pins, whose words stand from index 16,386 on, in order; here the last first
 --   takenOf n pins      the pins with which a plan is made: those that a new session on a table over the atoms 1 to n holds after being given `pins` in order
 --   openedWith, withPin, withoutPin   the memory after an opening, a pin, a removal
--- A pin's word is its atom's number, and 256 more where it is pinned false. Every content is read so, one that no `open` made too: a number that no session keeps
--- counts as 0, and `takenOf` passes over what `pin` would refuse. Of a session that `open` made, it passes over nothing (`pins-kept` of `proofs/History.antt`).
+-- A pin's word is its atom's number, and 256 more where it is pinned false. Every content is read so, one that no `open` made too: a number that is too
+-- large counts as 0, a negative one is taken without its sign, and `takenOf` passes over what `pin` would refuse. Of a session that `open` made, it passes over nothing (`pins-kept` of `proofs/History.antt`).
 -- Assumes nothing.
 use mathlib.Core.Bool.{Bool, true, false, not}
 use mathlib.Core.List.{List, [], _∷_, _++_}
