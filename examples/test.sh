@@ -2,18 +2,23 @@
 # Builds the C and the Rust examples with cc and rustc alone, runs them, and compares what they print.
 set -eu
 cd "$(dirname "$0")/.."
-if [ ! -f target/staticlib/libdock.a ]; then
-    echo "no target/staticlib/libdock.a (rt staticlib dock makes it)"
-    exit 1
-fi
+dock=target/staticlib/libdock.a
+desk=target/staticlib/libdesk.a
+for library in dock desk; do
+    if [ ! -f target/staticlib/lib$library.a ]; then
+        echo "no target/staticlib/lib$library.a (rt staticlib $library makes it)"
+        exit 1
+    fi
+done
 mkdir -p target/examples
 if command -v objdump >/dev/null && command -v python3 >/dev/null; then
-    PYTHONDONTWRITEBYTECODE=1 python3 tools/probes.py target/staticlib/libdock.a
+    PYTHONDONTWRITEBYTECODE=1 python3 tools/probes.py $dock
+    PYTHONDONTWRITEBYTECODE=1 python3 tools/probes.py $desk
 fi
-cc -std=c11 -Wall -Wextra -Werror -O2 -I include examples/c/plan.c target/staticlib/libdock.a -o target/examples/plan_c
-cc -std=c11 -Wall -Wextra -Werror -O2 -I include examples/c/aspif.c target/staticlib/libdock.a -o target/examples/aspif
-cc -std=c11 -Wall -Wextra -Werror -O2 -I include examples/c/pins.c target/staticlib/libdock.a -o target/examples/pins_c
-cc -std=c11 -Wall -Wextra -Werror -O2 -I include examples/c/plain.c target/staticlib/libdock.a -o target/examples/plain_c
+cc -std=c11 -Wall -Wextra -Werror -O2 -I include examples/c/plan.c $dock -o target/examples/plan_c
+cc -std=c11 -Wall -Wextra -Werror -O2 -I include examples/c/aspif.c $desk $dock -o target/examples/aspif
+cc -std=c11 -Wall -Wextra -Werror -O2 -I include examples/c/pins.c $desk $dock -o target/examples/pins_c
+cc -std=c11 -Wall -Wextra -Werror -O2 -I include examples/c/plain.c $desk $dock -o target/examples/plain_c
 rustc -O --edition 2021 -D warnings -L target/staticlib -l static=dock examples/rust/plan.rs -o target/examples/plan_rust
 for program in plan_c plan_rust; do
     "target/examples/$program" | diff - examples/expected
@@ -28,7 +33,7 @@ done
 echo "aspif: ok"
 target/examples/pins_c | diff - examples/expected-pins
 echo "pins_c: ok"
-cc -std=c11 -Wall -Wextra -Werror -O2 -I include examples/c/list.c target/staticlib/libdock.a -o target/examples/list_c
+cc -std=c11 -Wall -Wextra -Werror -O2 -I include examples/c/list.c $desk $dock -o target/examples/list_c
 target/examples/list_c | diff - examples/expected-list
 echo "list_c: ok"
 target/examples/plain_c | diff - examples/expected-plain

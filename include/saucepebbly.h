@@ -17,7 +17,8 @@
  * - The library calls memcpy and memset, and nothing else of the C library.
  * - A report that is shorter than what an entry writes there is not written at all. The check leaves it alone on yes and no.
  *
- * Link with target/staticlib/libdock.a (`rt staticlib dock`); it is for x86-64 Linux.
+ * Two libraries, for x86-64 Linux: libdock.a (`rt staticlib dock`) has saucepebbly_solve and saucepebbly_approve, which the
+ * dock runs; libdesk.a (`rt staticlib desk`) has all others. A program may link either or both.
  */
 #ifndef SAUCEPEBBLY_H
 #define SAUCEPEBBLY_H

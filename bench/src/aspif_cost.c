@@ -1,8 +1,8 @@
 /* What reading and writing aspif cost: the stack at its deepest, and the time by the text's length.
  *
- *     rt staticlib dock
+ *     rt staticlib dock && rt staticlib desk
  *     mkdir -p target/bench
- *     cc -O2 -Iinclude bench/src/aspif_cost.c target/staticlib/libdock.a -lpthread -o target/bench/aspif_cost && target/bench/aspif_cost
+ *     cc -O2 -Iinclude bench/src/aspif_cost.c target/staticlib/libdesk.a target/staticlib/libdock.a -lpthread -o target/bench/aspif_cost && target/bench/aspif_cost
  *
  * The stack of a thread is painted before the call; what has lost its paint after it was used, less what a thread uses that does nothing. */
 #define _POSIX_C_SOURCE 200809L

@@ -1,7 +1,7 @@
 /* How much stack the plain engine needs at its deepest: 256 atoms, each of which supports itself, so that all are chosen before the foundedness test fails.
  *
- *     rt staticlib dock
- *     cc -O2 -Iinclude bench/src/plain_stack.c target/staticlib/libdock.a -lpthread -o target/bench/plain_stack && target/bench/plain_stack
+ *     rt staticlib dock && rt staticlib desk
+ *     cc -O2 -Iinclude bench/src/plain_stack.c target/staticlib/libdesk.a target/staticlib/libdock.a -lpthread -o target/bench/plain_stack && target/bench/plain_stack
  *
  * The stack of a thread is painted before the call; what has lost its paint after it was used. */
 #include "saucepebbly.h"

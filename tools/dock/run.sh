@@ -1,15 +1,18 @@
 #!/bin/sh
-# Tests the library that ships: builds libdock.a, looks for the back end's fault in it, and runs all tables and texts of the gate over it through C, with
-# the kit's own compiler and linker. Ends with status 0 only if every line is the expected one.
+# Tests the libraries that ship: builds libdock.a and libdesk.a, looks for the back end's fault in them, and runs all tables and texts of the gate over them
+# through C, with the kit's own compiler and linker. Ends with status 0 only if every line is the expected one.
 set -eu
 cd "$(dirname "$0")/../.."
 kit=$(dirname "$(rt doc)")/..
 tools=$kit/on/x86_64/toolchain/bin
 lib=$kit/toolchain/lib
 rt staticlib dock
-library=target/staticlib/libdock.a
+rt staticlib desk
+dock=target/staticlib/libdock.a
+desk=target/staticlib/libdesk.a
 if command -v objdump >/dev/null && command -v python3 >/dev/null; then
-    PYTHONDONTWRITEBYTECODE=1 python3 tools/probes.py "$library"
+    PYTHONDONTWRITEBYTECODE=1 python3 tools/probes.py "$dock"
+    PYTHONDONTWRITEBYTECODE=1 python3 tools/probes.py "$desk"
     echo "dock: no probe loop behind a function's entry"
 else
     echo "dock: not looked for probe loops, since there is no objdump or no python3"
@@ -18,7 +21,7 @@ mkdir -p target/dock
 for program in runs pins; do
     "$tools/clang" -std=c11 -Wall -Wextra -Werror -O2 -ffreestanding -fPIE -I include -c tools/dock/$program.c -o target/dock/$program.o
     "$tools/ld.lld" -pie -melf_x86_64 -z relro -z now -z noexecstack -dynamic-linker /lib64/ld-linux-x86-64.so.2 -o target/dock/$program \
-        "$lib/Scrt1.o" "$lib/crti.o" "$lib/crtbeginS.o" target/dock/$program.o "$library" \
+        "$lib/Scrt1.o" "$lib/crti.o" "$lib/crtbeginS.o" target/dock/$program.o "$desk" "$dock" \
         "$lib/libc.so.6" "$lib/libc_nonshared.a" "$lib/ld-linux-x86-64.so.2" "$lib/libgcc.a" "$lib/crtendS.o" "$lib/crtn.o"
 done
 target/dock/runs tables <crates/run_tables/stdin | cmp - crates/run_tables/stdout

@@ -14,7 +14,8 @@ use Rattle.results.specs.declared.Checked.the-variants as checked
 use Rattle.judging.specs.declared.Buffer.the-variants.{Plan}
 use Rattle.judging.proofs.Places.{place-small}
 use Rattle.solver.proofs.Places.{check-place-small}
-use Rattle.dock.specs.Dock.{narrow, firstOf, secondOf, thirdOf, reported, withThird, checkReport, Solves, Approves}
+use Rattle.reports.specs.Report.{narrow, firstOf, secondOf, thirdOf, reported, withThird}
+use Rattle.dock.specs.Dock.{checkReport, Solves, Approves}
 
 kept : (n : ℕ) → n ≤ 16384 → narrow n ≡ n
 kept n h = omega (arith, h)

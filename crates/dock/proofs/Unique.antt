@@ -7,8 +7,9 @@ use Rattle.results.specs.Results.{kindOf, checkKind}
 use Rattle.results.specs.declared.Checked.{Checked}
 use Rattle.solver.specs.declared.Solution.{Solution}
 use Rattle.solver.proofs.Unique.{solution-unique, approving-unique}
-use Rattle.dock.specs.Whys.{whysWritten}
-use Rattle.dock.specs.Dock.{firstOf, secondOf, thirdOf, reported, withThird, checkReport, Solves, Approves}
+use Rattle.reports.specs.Whys.{whysWritten}
+use Rattle.reports.specs.Report.{firstOf, secondOf, thirdOf, reported, withThird}
+use Rattle.dock.specs.Dock.{checkReport, Solves, Approves}
 
 module _ (t : List ℤ) (lim : ℕ) (old report whys : List ℕ) where
   pub solves-unique : (new new′ told told′ shown shown′ : List ℕ) (k k′ : ℕ) → Solves t lim old new report told whys shown k → Solves t lim old new′ report told′ whys shown′ k′

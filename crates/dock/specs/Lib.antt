@@ -1,8 +1,2 @@
 -- The definitions that the contracts cite.
-pub mod Whys
 pub mod Dock
-pub mod Plain
-pub mod Reading
-pub mod Writing
-pub mod Session
-pub mod List

@@ -5,7 +5,8 @@ use Prim.Native.Nat.{ℕ}
 use Rattle.results.specs.Results.{numberOf}
 use Rattle.results.specs.declared.Checked.{Checked}
 use Rattle.results.specs.Results.{checkKind}
-use Rattle.dock.specs.Dock.{narrow, reported, checkReport}
+use Rattle.reports.specs.Report.{narrow, reported}
+use Rattle.dock.specs.Dock.{checkReport}
 use Rattle.dock.proofs.saucepebbly_approve.Statement.{statement}
 use Rattle.dock.proofs.saucepebbly_approve.Tie as tie
 

@@ -2,7 +2,7 @@
 use borrow.Author.Needs.{needs}
 use mathlib.Core.Path.{_≡_, sym, ap, _∙_}
 use Prim.Native.Nat.{ℕ}
-use Rattle.dock.specs.Dock.{firstOf, secondOf, thirdOf, reported, withThird}
+use Rattle.reports.specs.Report.{firstOf, secondOf, thirdOf, reported, withThird}
 use Rattle.dock.proofs.saucepebbly_solve.Statement.{statement}
 use Rattle.dock.proofs.saucepebbly_solve.Tie as tie
 
