@@ -19,7 +19,7 @@ PUBLIC = [
     "results/src/lib.rt", "solver/src/lib.rt", "plain/src/lib.rt", "text/src/reader.rt", "text/src/printer.rt", "reply/src/lib.rt",
     "aspif_read/src/lib.rt", "aspif_write/src/lib.rt", "stored/src/lib.rt", "pins/src/lib.rt",
 ]
-PUBLIC_FOLDERS = ["dock/src"]
+PUBLIC_FOLDERS = ["dock/src", "desk/src"]
 WORD = r"[^\s(){}\[\]⌜⌝,;.λ:=]+"
 
 
