@@ -1,4 +1,4 @@
--- The tests are exact: "does p reach q" is whether there is a chain of arcs, and `cycleOf` is 01's refusal 8 or 9 with its place, or nothing, which it
+-- The tests are exact: "does p reach q" is whether there is a chain of arcs, and `cycleBy` is 01's refusal 8 or 9 in each mode, with its place, or nothing, which it
 -- is exactly if the program is free of both classes. For the solver: with `laid-inside` of `Inside`, a table that is not refused meets the
 -- hypotheses of "founded ⇔ answer set" and of the search's theorems.
 -- Assumes nothing.
@@ -27,7 +27,7 @@ use Rattle.depend.specs.declared.Place.the-variants.{Nowhere, At}
 use Rattle.depend.specs.declared.Cycle.{Cycle}
 use Rattle.depend.specs.declared.Cycle.the-variants.{Nothing, Refused}
 use Rattle.reach.specs.Arcs.{arcsOf}
-use Rattle.depend.specs.Cycles.{orLater, lowest, eighth, ninth, cycleOf, noRule, ruleOf, Lowest}
+use Rattle.depend.specs.Cycles.{orLater, lowest, eighth, ninth, headCycleBy, cycleBy, HeadCycleBy, noRule, ruleOf, Lowest}
 use Rattle.reach.proofs.Inside.{below, laid-inside}
 use Rattle.reach.proofs.Graph.{arcs-low}
 
@@ -136,55 +136,61 @@ nothing-place (At j) v e = absurd (silent (refusal.HeadCycle j) refl e)
 nothing-place Nowhere Nowhere e = (refl, refl)
 nothing-place Nowhere (At j) e = absurd (silent (refusal.AggregateCycle j) refl e)
 
-module _ (n : ℕ) (P : Program) (A : AtomsIn n P) where
-  heads : (r : Rule) → Is (headCycle (suc n) P r) ↔ HeadCycle P r
-  heads r = head-cycle (suc n) P (below n P A) r
+-- the test of a rule for 8, in each mode
+heads-by : (cycles : Bool) (n : ℕ) (P : Program) → AtomsIn n P → (r : Rule) → Is (headCycleBy cycles (suc n) P r) ↔ HeadCycleBy cycles P r
+heads-by false n P A r = head-cycle (suc n) P (below n P A) r
+heads-by true n P A r = (λ h. clash h refl, λ h. absurd h)
+
+-- in the mode `cycles`
+module _ (cycles : Bool) (n : ℕ) (P : Program) (A : AtomsIn n P) where
+  heads : (r : Rule) → Is (headCycleBy cycles (suc n) P r) ↔ HeadCycleBy cycles P r
+  heads r = heads-by cycles n P A r
 
   aggregates : (r : Rule) → Is (aggregateCycle (suc n) P r) ↔ AggregateCycle P r
   aggregates r = aggregate-cycle (suc n) P (below n P A) r
 
   abbrev u : Place
-  u = lowest (headCycle (suc n) P) 1 P
+  u = lowest (headCycleBy cycles (suc n) P) 1 P
 
   abbrev v : Place
   v = lowest (aggregateCycle (suc n) P) 1 P
 
   -- "8: head cycle, lowest such rule, from 1"
-  pub refused-8 : (k : ℕ) → (cycleOf n P ≡ Refused (refusal.HeadCycle k)) ↔ Lowest (HeadCycle P) P k
-  unfolding cycleOf
+  pub refused-8 : (k : ℕ) → (cycleBy cycles n P ≡ Refused (refusal.HeadCycle k)) ↔ Lowest (HeadCycleBy cycles P) P k
+  unfolding cycleBy
   refused-8 k = (
-    λ e. (lowest-at P (headCycle (suc n) P) (HeadCycle P) heads k) .0 (head-place u v k e),
-    λ l. ap (λ (p : Place). eighth p (ninth v)) ((lowest-at P (headCycle (suc n) P) (HeadCycle P) heads k) .1 l),
+    λ e. (lowest-at P (headCycleBy cycles (suc n) P) (HeadCycleBy cycles P) heads k) .0 (head-place u v k e),
+    λ l. ap (λ (p : Place). eighth p (ninth v)) ((lowest-at P (headCycleBy cycles (suc n) P) (HeadCycleBy cycles P) heads k) .1 l),
   )
 
   -- "9: aggregate cycle, lowest rule with such an arc", after 8
-  pub refused-9 : (k : ℕ) → (cycleOf n P ≡ Refused (refusal.AggregateCycle k)) ↔ (Free HeadCycle P × Lowest (AggregateCycle P) P k)
-  unfolding cycleOf
+  pub refused-9 : (k : ℕ) → (cycleBy cycles n P ≡ Refused (refusal.AggregateCycle k)) ↔ (Free (HeadCycleBy cycles) P × Lowest (AggregateCycle P) P k)
+  unfolding cycleBy
   refused-9 k = (
     λ e.
         let w = aggregate-place u v k e in
-        ((lowest-none P (headCycle (suc n) P) (HeadCycle P) heads) .0 (w .0), (lowest-at P (aggregateCycle (suc n) P) (AggregateCycle P) aggregates k) .0 (w .1)),
+        ((lowest-none P (headCycleBy cycles (suc n) P) (HeadCycleBy cycles P) heads) .0 (w .0), (lowest-at P (aggregateCycle (suc n) P) (AggregateCycle P) aggregates k) .0 (w .1)),
     λ w.
-        ap (λ (p : Place). eighth p (ninth v)) ((lowest-none P (headCycle (suc n) P) (HeadCycle P) heads) .1 (w .0))
+        ap (λ (p : Place). eighth p (ninth v)) ((lowest-none P (headCycleBy cycles (suc n) P) (HeadCycleBy cycles P) heads) .1 (w .0))
         ∙ ap ninth ((lowest-at P (aggregateCycle (suc n) P) (AggregateCycle P) aggregates k) .1 (w .1)),
   )
 
   -- nothing exactly if the program is free of both
-  pub not-refused : (cycleOf n P ≡ Nothing) ↔ (Free HeadCycle P × Free AggregateCycle P)
-  unfolding cycleOf
+  pub not-refused : (cycleBy cycles n P ≡ Nothing) ↔ (Free (HeadCycleBy cycles) P × Free AggregateCycle P)
+  unfolding cycleBy
   not-refused = (
     λ e.
         let w = nothing-place u v e in
-        ((lowest-none P (headCycle (suc n) P) (HeadCycle P) heads) .0 (w .0), (lowest-none P (aggregateCycle (suc n) P) (AggregateCycle P) aggregates) .0 (w .1)),
+        ((lowest-none P (headCycleBy cycles (suc n) P) (HeadCycleBy cycles P) heads) .0 (w .0), (lowest-none P (aggregateCycle (suc n) P) (AggregateCycle P) aggregates) .0 (w .1)),
     λ w.
-        ap (λ (p : Place). eighth p (ninth v)) ((lowest-none P (headCycle (suc n) P) (HeadCycle P) heads) .1 (w .0))
+        ap (λ (p : Place). eighth p (ninth v)) ((lowest-none P (headCycleBy cycles (suc n) P) (HeadCycleBy cycles P) heads) .1 (w .0))
         ∙ ap ninth ((lowest-none P (aggregateCycle (suc n) P) (AggregateCycle P) aggregates) .1 (w .1)),
   )
 
 -- there is no other result
-pub cycle-cases : (n : ℕ) (P : Program) → (cycleOf n P ≡ Nothing) ⊎ ((k : ℕ) × (cycleOf n P ≡ Refused (refusal.HeadCycle k))) ⊎ ((k : ℕ) × (cycleOf n P ≡ Refused (refusal.AggregateCycle k)))
-unfolding cycleOf
-cycle-cases n P = at (lowest (headCycle (suc n) P) 1 P) (lowest (aggregateCycle (suc n) P) 1 P)
+pub cycle-cases : (cycles : Bool) (n : ℕ) (P : Program) → (cycleBy cycles n P ≡ Nothing) ⊎ ((k : ℕ) × (cycleBy cycles n P ≡ Refused (refusal.HeadCycle k))) ⊎ ((k : ℕ) × (cycleBy cycles n P ≡ Refused (refusal.AggregateCycle k)))
+unfolding cycleBy
+cycle-cases cycles n P = at (lowest (headCycleBy cycles (suc n) P) 1 P) (lowest (aggregateCycle (suc n) P) 1 P)
   where
     at : (u v : Place) → (eighth u (ninth v) ≡ Nothing) ⊎ ((k : ℕ) × (eighth u (ninth v) ≡ Refused (refusal.HeadCycle k))) ⊎ ((k : ℕ) × (eighth u (ninth v) ≡ Refused (refusal.AggregateCycle k)))
     at (At j) v = inr (inl (j, refl))
@@ -193,9 +199,20 @@ cycle-cases n P = at (lowest (headCycle (suc n) P) 1 P) (lowest (aggregateCycle 
 
 -- ---- for the solver: an accepted table that is not refused
 
-pub accepted-table : (t : List ℤ) (tb : Table) → Laid t tb → cycleOf (tb .atoms) (programOf t tb) ≡ Nothing
-    → AtomsIn (tb .atoms) (programOf t tb) × Free HeadCycle (programOf t tb) × Free AggregateCycle (programOf t tb)
-accepted-table t tb h e =
+pub accepted-table : (cycles : Bool) (t : List ℤ) (tb : Table) → Laid t tb → cycleBy cycles (tb .atoms) (programOf t tb) ≡ Nothing
+    → AtomsIn (tb .atoms) (programOf t tb) × Free (HeadCycleBy cycles) (programOf t tb) × Free AggregateCycle (programOf t tb)
+accepted-table cycles t tb h e =
     let A = laid-inside t tb h in
-    let w = (not-refused (tb .atoms) (programOf t tb) A) .0 e in
+    let w = (not-refused cycles (tb .atoms) (programOf t tb) A) .0 e in
     (A, w .0, w .1)
+
+-- ---- for the code: where head cycles are taken, only 9 is left
+
+nowhere : (k : ℕ) (P : Program) → lowest (λ (r : Rule). false) k P ≡ Nowhere
+unfolding lowest
+nowhere k [] = refl
+nowhere k (r ∷ P) = nowhere (suc k) P
+
+pub only-ninth : (n : ℕ) (P : Program) → cycleBy true n P ≡ ninth (lowest (aggregateCycle (suc n) P) 1 P)
+unfolding cycleBy
+only-ninth n P = ap (λ (p : Place). eighth p (ninth (lowest (aggregateCycle (suc n) P) 1 P))) (nowhere 1 P)

@@ -1,14 +1,16 @@
 -- Refusals 8 and 9 (01, "What comes back"): "8 head cycle: lowest such rule, from 1", "9 aggregate cycle: lowest rule with such an arc"; 8 comes
--- before 9. Definitions only. The tests of a rule, `headCycle` and `aggregateCycle`, are `meaning`'s; `proofs/Exact.antt` shows that `cycleOf` says
--- exactly what `HeadCycle` and `AggregateCycle` mean.
+-- before 9. Request 14: "In a mode chosen by the call, 8 is no longer given". Definitions only. The tests of a rule, `headCycle` and `aggregateCycle`, are
+-- `meaning`'s; `proofs/Exact.antt` shows that `cycleBy` says exactly what `HeadCycle` and `AggregateCycle` mean.
 --   mayCross P         some rule has two head atoms, and some rule has head and positive atoms: there may be a head cycle
 --   mayReturn P        some rule has head atoms and aggregate literals: there may be an aggregate cycle
 --   crossed X l        two different atoms of the list l that X relates
 --   returned X ps ls   X relates an element of one of the aggregate literals ls to one of the atoms ps
 --   lowest f k P       the first rule of P that passes f, rules being numbered from k on
---   cycleOf n P        the refusal of a program over atoms 1 .. n, or nothing
+--   headCycleBy b      the test of a rule for 8 in the mode b: none passes where head cycles are taken
+--   cycleBy b n P      the refusal of a program over atoms 1 .. n in the mode b, or nothing;  cycleOf, in the mode that refuses head cycles
+--   HeadCycleBy b P r  what 8 is given for in the mode b: a head cycle, or nothing at all
 --   ruleOf P k         rule k, from 1;  Lowest: rule k is the lowest of the program with a property
--- Reached by public contracts, and so to be believed: `noRule`, `ruleOf`, `Lowest`.
+-- Reached by public contracts, and so to be believed: `HeadCycleBy`, `noRule`, `ruleOf`, `Lowest`.
 -- Assumes nothing.
 use mathlib.Core.Bool.{Bool, true, false, not, _&&_}
 use mathlib.Core.List.{List, [], _∷_}
@@ -18,6 +20,7 @@ use lib.ListN.{length, getD}
 use Rattle.meaning.specs.Lists.{any}
 use Rattle.meaning.specs.Program.{Element, Literal, Rule, Program}
 use Rattle.meaning.specs.Cycles.{headCycle, aggregateCycle}
+use Rattle.meaning.specs.Dependency.{HeadCycle}
 use Rattle.results.specs.declared.Refusal.the-variants as refusal
 use Rattle.depend.specs.declared.Place.{Place}
 use Rattle.depend.specs.declared.Place.the-variants.{Nowhere, At}
@@ -83,8 +86,21 @@ abbrev pub eighth : Place → Cycle → Cycle
 eighth Nowhere c = c
 eighth (At k) c = Refused (refusal.HeadCycle k)
 
-unfoldable pub cycleOf : ℕ → Program → Cycle
-cycleOf n P = eighth (lowest (headCycle (suc n) P) 1 P) (ninth (lowest (aggregateCycle (suc n) P) 1 P))
+abbrev pub headCycleBy : Bool → ℕ → Program → Rule → Bool
+headCycleBy false n P r = headCycle n P r
+headCycleBy true n P r = false
+
+unfoldable pub cycleBy : Bool → ℕ → Program → Cycle
+cycleBy cycles n P = eighth (lowest (headCycleBy cycles (suc n) P) 1 P) (ninth (lowest (aggregateCycle (suc n) P) 1 P))
+
+abbrev pub cycleOf : ℕ → Program → Cycle
+cycleOf n P = cycleBy false n P
+
+-- ---- what 8 is given for, by the mode: "8 is no longer given"
+
+abbrev pub HeadCycleBy : Bool → Program → Rule → Type 0
+HeadCycleBy false P r = HeadCycle P r
+HeadCycleBy true P r = ⊥
 
 -- ---- what "lowest rule" means
 

@@ -8,7 +8,7 @@ ghost use Prim.Native.Nat.{suc};
 ghost use Rattle.meaning.specs.Cycles.{headCycle, aggregateCycle};
 ghost use Rattle.layout.specs.Layout.{programOf, Laid};
 ghost use Rattle.heads.specs.Heads.{Listed};
-ghost use Rattle.depend.specs.Cycles.{lowest, cycleOf};
+ghost use Rattle.depend.specs.Cycles.{lowest, ninth, cycleBy};
 use heads::Lists;
 use layout::Table;
 use reach::settling;
@@ -29,21 +29,31 @@ pub enum Cycle {
     Refused(Refusal),
 }
 
-// The refusal of an accepted table for its cycles: 8 before 9, each at its lowest rule. `lists` are the table's lists of rules by head.
-pub fn refusal(t: &[i32], tb: Table, lists: &Lists) -> Cycle
+// The refusal of an accepted table for its cycles: 8 before 9, each at its lowest rule; where head cycles are taken, 9 alone. `lists` are the table's
+// lists of rules by head.
+pub fn refusal(t: &[i32], tb: Table, cycles: bool, lists: &Lists) -> Cycle
     requires { ⌜ Laid (now t) tb × Listed (now t) tb (now lists) ⌝ }
-    ensures { λ r. ⌜ r ≡ cycleOf (tb .atoms) (programOf (now (t .entry)) tb) ⌝ }
+    ensures { λ r. ⌜ r ≡ cycleBy cycles (tb .atoms) (programOf (now (t .entry)) tb) ⌝ }
 {
+    if cycles {
+        return ninth(t, tb, lists);
+    }
     let head = lowest_head(t, tb, lists);
     match head {
         Place::At(rule) => Cycle::Refused(Refusal::HeadCycle(rule)),
-        Place::Nowhere => {
-            let aggregate = lowest_aggregate(t, tb, lists);
-            match aggregate {
-                Place::At(rule) => Cycle::Refused(Refusal::AggregateCycle(rule)),
-                Place::Nowhere => Cycle::Nothing,
-            }
-        }
+        Place::Nowhere => ninth(t, tb, lists),
+    }
+}
+
+// Refusal 9 at its lowest rule, or nothing.
+fn ninth(t: &[i32], tb: Table, lists: &Lists) -> Cycle
+    requires { ⌜ Laid (now t) tb × Listed (now t) tb (now lists) ⌝ }
+    ensures { λ r. ⌜ r ≡ ninth (lowest (aggregateCycle (suc (tb .atoms)) (programOf (now (t .entry)) tb)) 1 (programOf (now (t .entry)) tb)) ⌝ }
+{
+    let aggregate = lowest_aggregate(t, tb, lists);
+    match aggregate {
+        Place::At(rule) => Cycle::Refused(Refusal::AggregateCycle(rule)),
+        Place::Nowhere => Cycle::Nothing,
     }
 }
 

@@ -1,6 +1,7 @@
--- Every table is refused or accepted, and the judge says which. Assumes nothing.
+-- In each mode every table is refused or accepted, and the judge says which. Assumes nothing.
 use mathlib.Core.Path.{_≡_, refl, sym, _∙_, ap, subst}
 use mathlib.Core.Logic.{_≢_, _⊎_, inl, inr}
+use mathlib.Core.Bool.{Bool, false}
 use mathlib.Core.Option.{Option, none, some}
 use mathlib.Core.List.{List}
 use Prim.Native.Nat.{ℕ, _≤_, _<_, _%_}
@@ -22,14 +23,14 @@ use Rattle.table.specs.declared.Fault.{Fault}
 use Rattle.table.specs.declared.Fault.the-variants as fault
 use Rattle.table.specs.declared.Reading.{Reading}
 use Rattle.table.proofs.Accepted.{accepted-laid, accepted-program, accepted-atoms, table-atoms}
-use Rattle.depend.specs.Cycles.{cycleOf}
+use Rattle.depend.specs.Cycles.{cycleBy}
 use Rattle.depend.specs.declared.Cycle.{Cycle}
 use Rattle.depend.specs.declared.Cycle.the-variants as cycle
 use Rattle.depend.proofs.Exact.{refused-8, refused-9, not-refused, cycle-cases}
 use Rattle.judging.specs.declared.Buffer.{Buffer}
 use Rattle.judging.specs.declared.Buffer.the-variants as lent
-use Rattle.judging.specs.Refusals.{earns, Accepted, Refused, words, buffer, table, head, aggregate}
-use Rattle.judging.specs.Judging.{Placed, faultOf, refusedReading, takenReading, Judged, refused, taken}
+use Rattle.judging.specs.Refusals.{earns, AcceptedBy, RefusedBy, words, buffer, table, head, aggregate}
+use Rattle.judging.specs.Judging.{Placed, faultOf, refusedReading, takenReading, JudgedBy, refused, taken}
 
 pub no-fault : {x : Fault} {f : Refusal} → x ≡ fault.Refused f → x ≡ fault.Nothing → ⊥
 no-fault e i = let z : _≡_ {A = ℕ} 0 1 = cc in omega arith
@@ -115,52 +116,55 @@ fault-bad (lent.Rows room) f e = at (eqCase (room % 256) 0)
 -- ---- the words
 
 -- the cycles of the words are those of the contents
-pub same-cycles : (t : List ℤ) (c : Contents) → grammar.contentsOf t ≡ grammar.accepted c → cycleOf (tableOf c .atoms) (programOf t (tableOf c)) ≡ cycleOf (c .atoms) (program c)
-same-cycles t c holds = ap (λ (n : ℕ). cycleOf n (programOf t (tableOf c))) (table-atoms c) ∙ ap (cycleOf (c .atoms)) (accepted-program t c holds)
+pub same-cycles : (cycles : Bool) (t : List ℤ) (c : Contents) → grammar.contentsOf t ≡ grammar.accepted c → cycleBy cycles (tableOf c .atoms) (programOf t (tableOf c)) ≡ cycleBy cycles (c .atoms) (program c)
+same-cycles cycles t c holds = ap (λ (n : ℕ). cycleBy cycles n (programOf t (tableOf c))) (table-atoms c) ∙ ap (cycleBy cycles (c .atoms)) (accepted-program t c holds)
 
 -- the table is refused, or accepted
+abbrev pub DecidedBy : Bool → List ℤ → Buffer → Type 0
+DecidedBy cycles t b = ((f : Refusal) × RefusedBy cycles t b (numberOf f) (placeOf f)) ⊎ ((c : Contents) × AcceptedBy cycles t b c)
+
 abbrev pub Decided : List ℤ → Buffer → Type 0
-Decided t b = ((f : Refusal) × Refused t b (numberOf f) (placeOf f)) ⊎ ((c : Contents) × Accepted t b c)
+Decided t b = DecidedBy false t b
 
 module _ (t : List ℤ) (b : Buffer) where
   module _ (few : length t ≤ 16384) (good : earns b ≡ none) (c : Contents) (holds : grammar.contentsOf t ≡ grammar.accepted c) where
     inside : AtomsIn (c .atoms) (program c)
     inside = accepted-atoms t c holds
 
-    pub cycle-refuses : (f : Refusal) → cycleOf (c .atoms) (program c) ≡ cycle.Refused f → Refused t b (numberOf f) (placeOf f)
-    cycle-refuses f e = at (cycle-cases (c .atoms) (program c))
+    pub cycle-refuses : {cycles : Bool} (f : Refusal) → cycleBy cycles (c .atoms) (program c) ≡ cycle.Refused f → RefusedBy cycles t b (numberOf f) (placeOf f)
+    cycle-refuses {cycles} f e = at (cycle-cases cycles (c .atoms) (program c))
       where
-        told : (g : Refusal) → cycleOf (c .atoms) (program c) ≡ cycle.Refused g → Refused t b (numberOf g) (placeOf g) → Refused t b (numberOf f) (placeOf f)
-        told g i = subst (λ (x : Refusal). Refused t b (numberOf x) (placeOf x)) (same-cycle i e)
+        told : (g : Refusal) → cycleBy cycles (c .atoms) (program c) ≡ cycle.Refused g → RefusedBy cycles t b (numberOf g) (placeOf g) → RefusedBy cycles t b (numberOf f) (placeOf f)
+        told g i = subst (λ (x : Refusal). RefusedBy cycles t b (numberOf x) (placeOf x)) (same-cycle i e)
 
-        at : (cycleOf (c .atoms) (program c) ≡ cycle.Nothing) ⊎ ((k : ℕ) × (cycleOf (c .atoms) (program c) ≡ cycle.Refused (refusal.HeadCycle k)))
-            ⊎ ((k : ℕ) × (cycleOf (c .atoms) (program c) ≡ cycle.Refused (refusal.AggregateCycle k))) → Refused t b (numberOf f) (placeOf f)
+        at : (cycleBy cycles (c .atoms) (program c) ≡ cycle.Nothing) ⊎ ((k : ℕ) × (cycleBy cycles (c .atoms) (program c) ≡ cycle.Refused (refusal.HeadCycle k)))
+            ⊎ ((k : ℕ) × (cycleBy cycles (c .atoms) (program c) ≡ cycle.Refused (refusal.AggregateCycle k))) → RefusedBy cycles t b (numberOf f) (placeOf f)
         at (inl n) = absurd (no-cycle e n)
-        at (inr (inl (k, i))) = told (refusal.HeadCycle k) i (head few good c holds (refused-8 (c .atoms) (program c) inside k .0 i) refl)
-        at (inr (inr (k, i))) = let w = refused-9 (c .atoms) (program c) inside k .0 i in told (refusal.AggregateCycle k) i (aggregate few good c holds (w .0) (w .1) refl)
+        at (inr (inl (k, i))) = told (refusal.HeadCycle k) i (head few good c holds (refused-8 cycles (c .atoms) (program c) inside k .0 i) refl)
+        at (inr (inr (k, i))) = let w = refused-9 cycles (c .atoms) (program c) inside k .0 i in told (refusal.AggregateCycle k) i (aggregate few good c holds (w .0) (w .1) refl)
 
-    pub none-accepts : cycleOf (c .atoms) (program c) ≡ cycle.Nothing → Accepted t b c
-    none-accepts e =
-        let w = not-refused (c .atoms) (program c) inside .0 e in
+    pub none-accepts : {cycles : Bool} → cycleBy cycles (c .atoms) (program c) ≡ cycle.Nothing → AcceptedBy cycles t b c
+    none-accepts {cycles} e =
+        let w = not-refused cycles (c .atoms) (program c) inside .0 e in
         record { words = few; buffer = good; holds = holds; noHead = w .0; noAggregate = w .1 }
 
   -- every table is refused or accepted
-  pub decided : Decided t b
-  decided = by-words (ltCase 16384 (length t)) (earned b)
+  pub decided : {cycles : Bool} → DecidedBy cycles t b
+  decided {cycles} = by-words (ltCase 16384 (length t)) (earned b)
     where
-      by-cycle : (few : length t ≤ 16384) → (good : earns b ≡ none) → (c : Contents) → grammar.contentsOf t ≡ grammar.accepted c → (x : Cycle) → cycleOf (c .atoms) (program c) ≡ x → Decided t b
+      by-cycle : (few : length t ≤ 16384) → (good : earns b ≡ none) → (c : Contents) → grammar.contentsOf t ≡ grammar.accepted c → (x : Cycle) → cycleBy cycles (c .atoms) (program c) ≡ x → DecidedBy cycles t b
       by-cycle few good c h cycle.Nothing e = inr (c, none-accepts few good c h e)
       by-cycle few good c h (cycle.Refused f) e = inl (f, cycle-refuses few good c h f e)
 
-      by-table : length t ≤ 16384 → earns b ≡ none → (x : grammar.Outcome) → grammar.contentsOf t ≡ x → Decided t b
-      by-table few good (grammar.accepted c) e = by-cycle few good c e (cycleOf (c .atoms) (program c)) refl
+      by-table : length t ≤ 16384 → earns b ≡ none → (x : grammar.Outcome) → grammar.contentsOf t ≡ x → DecidedBy cycles t b
+      by-table few good (grammar.accepted c) e = by-cycle few good c e (cycleBy cycles (c .atoms) (program c)) refl
       by-table few good (grammar.refusedFor f) e = inl (f, table few good f e refl refl)
 
-      by-buffer : length t ≤ 16384 → (x : Fault) → faultOf b ≡ x → Decided t b
+      by-buffer : length t ≤ 16384 → (x : Fault) → faultOf b ≡ x → DecidedBy cycles t b
       by-buffer few fault.Nothing e = by-table few (fault-good b e) (grammar.contentsOf t) refl
       by-buffer few (fault.Refused f) e = let w = fault-bad b f e in inl (f, buffer few (w .0) (w .1))
 
-      by-words : (16384 < length t) ⊎ (length t ≤ 16384) → Earned b → Decided t b
+      by-words : (16384 < length t) ⊎ (length t ≤ 16384) → Earned b → DecidedBy cycles t b
       by-words (inl l) y = inl (refusal.TooManyWords, words l refl refl)
       by-words (inr s) y = by-buffer s (faultOf b) refl
 
@@ -170,11 +174,11 @@ module _ (t : List ℤ) (b : Buffer) (r : Reading) where
   faulty : (f : Refusal) → r ≡ refusedReading f → r .fault ≡ fault.Refused f
   faulty f e = ap (λ (x : Reading). x .fault) e
 
-  pub judged-refused : (f : Refusal) → Judged t b r → r .fault ≡ fault.Refused f → Refused t b (numberOf f) (placeOf f)
-  judged-refused f (refused g h e) i = subst (λ (x : Refusal). Refused t b (numberOf x) (placeOf x)) (same-fault (faulty g e) i) h
+  pub judged-refused : {cycles : Bool} (f : Refusal) → JudgedBy cycles t b r → r .fault ≡ fault.Refused f → RefusedBy cycles t b (numberOf f) (placeOf f)
+  judged-refused {cycles} f (refused g h e) i = subst (λ (x : Refusal). RefusedBy cycles t b (numberOf x) (placeOf x)) (same-fault (faulty g e) i) h
   judged-refused f (taken c a e) i = absurd (no-fault i (ap (λ (x : Reading). x .fault) e))
 
-  pub judged-taken : Judged t b r → r .fault ≡ fault.Nothing → (c : Contents) × Accepted t b c × Placed t (r .table) c
+  pub judged-taken : {cycles : Bool} → JudgedBy cycles t b r → r .fault ≡ fault.Nothing → (c : Contents) × AcceptedBy cycles t b c × Placed t (r .table) c
   judged-taken (refused f h e) i = absurd (no-fault (faulty f e) i)
   judged-taken (taken c a e) i = (
     c,

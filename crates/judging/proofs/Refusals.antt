@@ -1,6 +1,7 @@
--- A table is refused with one number and place, or accepted with one contents, and never both. Assumes nothing.
+-- In each mode a table is refused with one number and place, or accepted with one contents, and never both. Assumes nothing.
 use mathlib.Core.Path.{_≡_, refl, sym, _∙_, ap, subst}
 use mathlib.Core.Logic.{_⊎_, inl, inr}
+use mathlib.Core.Bool.{Bool}
 use mathlib.Core.Option.{Option, none, some}
 use mathlib.Core.List.{List, [], _∷_, List·Memᴰ·head, List·Memᴰ·tail}
 use Prim.Native.Nat.{ℕ, zero, suc, _-_, _≤_, _<_}
@@ -9,15 +10,15 @@ use lib.IntN.{ℤ}
 use lib.ListN.{length, getD}
 use Rattle.meaning.specs.Lists.{_∈_}
 use Rattle.meaning.specs.Program.{Rule, Program}
-use Rattle.meaning.specs.Dependency.{HeadCycle, AggregateCycle, Free}
+use Rattle.meaning.specs.Dependency.{AggregateCycle, Free}
 use Rattle.meaning.proofs.Cond.{ltCase, some-inj}
 use Rattle.results.specs.declared.Refusal.{Refusal}
 use Rattle.results.specs.Results.{numberOf, placeOf}
 use Rattle.table.specs.Contents.{Contents, program}
 use Rattle.table.specs.Grammar as grammar
-use Rattle.depend.specs.Cycles.{Lowest, ruleOf, noRule}
+use Rattle.depend.specs.Cycles.{HeadCycleBy, Lowest, ruleOf, noRule}
 use Rattle.judging.specs.declared.Buffer.{Buffer}
-use Rattle.judging.specs.Refusals.{earns, Accepted, Refused, words, buffer, table, head, aggregate}
+use Rattle.judging.specs.Refusals.{earns, AcceptedBy, RefusedBy, words, buffer, table, head, aggregate}
 
 -- ---- the definition of the words' contents says one thing
 
@@ -54,14 +55,15 @@ pub lowest-not-free : (Cycle : Program → Rule → Type 0) (P : Program) (k : �
 lowest-not-free Cycle P k l free = let a = l .from in let b = l .upto in free (ruleOf P k) (rule-in P (k - 1) (omega arith)) (l .here)
 
 module _ (t : List ℤ) (b : Buffer) where
-  pub accepted-unique : (c d : Contents) → Accepted t b c → Accepted t b d → c ≡ d
+  pub accepted-unique : {cycles : Bool} (c d : Contents) → AcceptedBy cycles t b c → AcceptedBy cycles t b d → c ≡ d
   accepted-unique c d a h = same-contents (a .holds) (h .holds)
 
-  pub refused-not-accepted : (n i : ℕ) (c : Contents) → Refused t b n i → Accepted t b c → ⊥
+  pub refused-not-accepted : {cycles : Bool} (n i : ℕ) (c : Contents) → RefusedBy cycles t b n i → AcceptedBy cycles t b c → ⊥
   refused-not-accepted n i c (words l e p) a = let h = a .words in omega arith
   refused-not-accepted n i c (buffer s e p) a = good-bad (a .buffer) e
   refused-not-accepted n i c (table s g f e u p) a = not-both (a .holds) e
-  refused-not-accepted n i c (head s g d e l u) a = lowest-not-free HeadCycle (program c) i (subst (λ (x : Contents). Lowest (HeadCycle (program x)) (program x) i) (same-contents e (a .holds)) l) (a .noHead)
+  refused-not-accepted {cycles} n i c (head s g d e l u) a =
+      lowest-not-free (HeadCycleBy cycles) (program c) i (subst (λ (x : Contents). Lowest (HeadCycleBy cycles (program x)) (program x) i) (same-contents e (a .holds)) l) (a .noHead)
   refused-not-accepted n i c (aggregate s g d e f l u) a =
       lowest-not-free AggregateCycle (program c) i (subst (λ (x : Contents). Lowest (AggregateCycle (program x)) (program x) i) (same-contents e (a .holds)) l) (a .noAggregate)
 
@@ -74,19 +76,19 @@ module _ (t : List ℤ) (b : Buffer) where
     few-many : length t ≤ 16384 → 16384 < length t → Same
     few-many s l = absurd (omega arith)
 
-    heads : (c d : Contents) → grammar.contentsOf t ≡ grammar.accepted c → grammar.contentsOf t ≡ grammar.accepted d
-        → Lowest (HeadCycle (program c)) (program c) i → Lowest (HeadCycle (program d)) (program d) j → i ≡ j
-    heads c d e f l k = lowest-unique (HeadCycle (program c)) (program c) i j l (subst (λ (x : Contents). Lowest (HeadCycle (program x)) (program x) j) (same-contents f e) k)
+    heads : (cycles : Bool) (c d : Contents) → grammar.contentsOf t ≡ grammar.accepted c → grammar.contentsOf t ≡ grammar.accepted d
+        → Lowest (HeadCycleBy cycles (program c)) (program c) i → Lowest (HeadCycleBy cycles (program d)) (program d) j → i ≡ j
+    heads cycles c d e f l k = lowest-unique (HeadCycleBy cycles (program c)) (program c) i j l (subst (λ (x : Contents). Lowest (HeadCycleBy cycles (program x)) (program x) j) (same-contents f e) k)
 
     aggregates : (c d : Contents) → grammar.contentsOf t ≡ grammar.accepted c → grammar.contentsOf t ≡ grammar.accepted d
         → Lowest (AggregateCycle (program c)) (program c) i → Lowest (AggregateCycle (program d)) (program d) j → i ≡ j
     aggregates c d e f l k = lowest-unique (AggregateCycle (program c)) (program c) i j l (subst (λ (x : Contents). Lowest (AggregateCycle (program x)) (program x) j) (same-contents f e) k)
 
-    free-head : (c d : Contents) → grammar.contentsOf t ≡ grammar.accepted c → grammar.contentsOf t ≡ grammar.accepted d → (k : ℕ)
-        → Lowest (HeadCycle (program c)) (program c) k → Free HeadCycle (program d) → Same
-    free-head c d e f k l h = absurd (lowest-not-free HeadCycle (program c) k l (subst (λ (x : Contents). Free HeadCycle (program x)) (same-contents f e) h))
+    free-head : (cycles : Bool) (c d : Contents) → grammar.contentsOf t ≡ grammar.accepted c → grammar.contentsOf t ≡ grammar.accepted d → (k : ℕ)
+        → Lowest (HeadCycleBy cycles (program c)) (program c) k → Free (HeadCycleBy cycles) (program d) → Same
+    free-head cycles c d e f k l h = absurd (lowest-not-free (HeadCycleBy cycles) (program c) k l (subst (λ (x : Contents). Free (HeadCycleBy cycles) (program x)) (same-contents f e) h))
 
-    pub refused-unique : Refused t b n i → Refused t b m j → (n ≡ m) × (i ≡ j)
+    pub refused-unique : {cycles : Bool} → RefusedBy cycles t b n i → RefusedBy cycles t b m j → (n ≡ m) × (i ≡ j)
     refused-unique (words l e p) (words l′ e′ p′) = (e ∙ sym e′, p ∙ sym p′)
     refused-unique (words l e p) (buffer s′ e′ p′) = few-many s′ l
     refused-unique (words l e p) (table s′ g′ f′ h′ e′ p′) = few-many s′ l
@@ -105,10 +107,10 @@ module _ (t : List ℤ) (b : Buffer) where
     refused-unique (head s g c h k e) (words l′ e′ p′) = few-many s l′
     refused-unique (head s g c h k e) (buffer s′ e′ p′) = absurd (good-bad g e′)
     refused-unique (head s g c h k e) (table s′ g′ f′ h′ e′ p′) = absurd (not-both h h′)
-    refused-unique (head s g c h k e) (head s′ g′ c′ h′ k′ e′) = (e ∙ sym e′, heads c c′ h h′ k k′)
-    refused-unique (head s g c h k e) (aggregate s′ g′ c′ h′ n′ k′ e′) = free-head c c′ h h′ i k n′
+    refused-unique {cycles} (head s g c h k e) (head s′ g′ c′ h′ k′ e′) = (e ∙ sym e′, heads cycles c c′ h h′ k k′)
+    refused-unique {cycles} (head s g c h k e) (aggregate s′ g′ c′ h′ n′ k′ e′) = free-head cycles c c′ h h′ i k n′
     refused-unique (aggregate s g c h f k e) (words l′ e′ p′) = few-many s l′
     refused-unique (aggregate s g c h f k e) (buffer s′ e′ p′) = absurd (good-bad g e′)
     refused-unique (aggregate s g c h f k e) (table s′ g′ f′ h′ e′ p′) = absurd (not-both h h′)
-    refused-unique (aggregate s g c h f k e) (head s′ g′ c′ h′ k′ e′) = free-head c′ c h′ h j k′ f
+    refused-unique {cycles} (aggregate s g c h f k e) (head s′ g′ c′ h′ k′ e′) = free-head cycles c′ c h′ h j k′ f
     refused-unique (aggregate s g c h f k e) (aggregate s′ g′ c′ h′ f′ k′ e′) = (e ∙ sym e′, aggregates c c′ h h′ k k′)

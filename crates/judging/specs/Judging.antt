@@ -1,11 +1,12 @@
 -- What the judge hands back, in the terms of `Refusals`. Definitions only.
 --   Placed            the places tb are those of the contents c in the words t
---   Judged            the whole judgement: the refusal, or the places of what the words hold
---   JudgedWords       the same of the words alone, where they are not too many and no buffer is bad
+--   JudgedBy m        the whole judgement in the mode m: the refusal, or the places of what the words hold;  Judged, in 01's mode
+--   JudgedWords m     the same of the words alone, where they are not too many and no buffer is bad
 --   Filled            the lists of rules by head that are made on the way
 --   refusedReading    a refusal, with no places;  faultOf, the refusal that the entry's own buffer earns
 -- Assumes nothing.
 use mathlib.Core.Path.{_≡_}
+use mathlib.Core.Bool.{Bool, false}
 use mathlib.Core.Option.{Option, none}
 use mathlib.Core.List.{List}
 use Prim.Native.Nat.{ℕ, _≤_, _%_}
@@ -25,7 +26,7 @@ use Rattle.table.specs.declared.Fault.the-variants as fault
 use Rattle.table.specs.declared.Reading.{Reading}
 use Rattle.judging.specs.declared.Buffer.{Buffer}
 use Rattle.judging.specs.declared.Buffer.the-variants as lent
-use Rattle.judging.specs.Refusals.{earns, Accepted, Refused}
+use Rattle.judging.specs.Refusals.{earns, AcceptedBy, RefusedBy}
 
 pub record Placed (t : List ℤ) (tb : Table) (c : Contents) : Type 0 where
   pub laid : Laid t tb
@@ -43,12 +44,15 @@ faultOf lent.Nothing = fault.Nothing
 faultOf (lent.Plan room) = ifLt room 256 (fault.Refused refusal.ShortPlan) fault.Nothing
 faultOf (lent.Rows room) = ifEq (room % 256) 0 fault.Nothing (fault.Refused refusal.PartRow)
 
-pub data Judged (t : List ℤ) (b : Buffer) (r : Reading) : Type 0 where
-  refused : (f : Refusal) → Refused t b (numberOf f) (placeOf f) → r ≡ refusedReading f → Judged t b r
-  taken : (c : Contents) → Accepted t b c → r ≡ takenReading c → Judged t b r
+pub data JudgedBy (cycles : Bool) (t : List ℤ) (b : Buffer) (r : Reading) : Type 0 where
+  refused : (f : Refusal) → RefusedBy cycles t b (numberOf f) (placeOf f) → r ≡ refusedReading f → JudgedBy cycles t b r
+  taken : (c : Contents) → AcceptedBy cycles t b c → r ≡ takenReading c → JudgedBy cycles t b r
 
-abbrev pub JudgedWords : List ℤ → Reading → Type 0
-JudgedWords t r = length t ≤ 16384 → (b : Buffer) → earns b ≡ none → Judged t b r
+abbrev pub Judged : List ℤ → Buffer → Reading → Type 0
+Judged t b r = JudgedBy false t b r
+
+abbrev pub JudgedWords : Bool → List ℤ → Reading → Type 0
+JudgedWords cycles t r = length t ≤ 16384 → (b : Buffer) → earns b ≡ none → JudgedBy cycles t b r
 
 -- the lists of rules by head of a table that is not refused
 abbrev pub Filled : List ℤ → Reading → List ℕ → Type 0

@@ -1,11 +1,10 @@
 // Which table is refused, and why (01, "What comes back": "Order: .. 1, 10; then the first faulty word from the left ..; then 3, 8, 9"). Every entry
-// that is given a table asks here, and says which buffer of its own is judged in the place of 10. Nothing is written. Meaning: `specs/Refusals.antt`;
-// that a table has one judgement: `proofs/Unique.antt`.
+// that is given a table asks here, and says which buffer of its own is judged in the place of 10, and whether it takes head cycles (request 14: then 8 is
+// not given). Nothing is written. Meaning: `specs/Refusals.antt`; that a table has one judgement: `proofs/Unique.antt`.
 ghost use mathlib.Core.Path.{_≡_};
 ghost use Prim.Native.Nat.{_≤_};
 ghost use lib.ListN.{length};
-ghost use Rattle.judging.specs.Refusals.{Accepted, Refused};
-ghost use Rattle.judging.specs.Judging.{Judged, JudgedWords, Filled, refusedReading, faultOf};
+ghost use Rattle.judging.specs.Judging.{Judged, JudgedBy, JudgedWords, Filled, refusedReading, faultOf};
 use depend::Cycle;
 use heads::Lists;
 use layout::Table;
@@ -66,8 +65,8 @@ fn refused(f: Refusal) -> Reading
 }
 
 // The words alone, of which there are not too many: the first faulty word, 3, 8 and 9. The lists of rules by head are made before 8 and 9 are asked.
-fn words_judged(words: &[i32], lists: &mut Lists) -> Reading
-    ensures { λ r. ⌜ JudgedWords (now (words .entry)) r × Filled (now (words .entry)) r (now (lists .exit)) ⌝ }
+fn words_judged(words: &[i32], cycles: bool, lists: &mut Lists) -> Reading
+    ensures { λ r. ⌜ JudgedWords cycles (now (words .entry)) r × Filled (now (words .entry)) r (now (lists .exit)) ⌝ }
 {
     let reading = table::read(words);
     let fault = reading.fault;
@@ -76,7 +75,7 @@ fn words_judged(words: &[i32], lists: &mut Lists) -> Reading
         Fault::Nothing => {
             let tb = reading.table;
             heads::fill(words, tb, lists);
-            let cycle = depend::refusal(words, tb, lists);
+            let cycle = depend::refusal(words, tb, cycles, lists);
             match cycle {
                 Cycle::Nothing => reading,
                 Cycle::Refused(f) => refused(f),
@@ -86,8 +85,8 @@ fn words_judged(words: &[i32], lists: &mut Lists) -> Reading
 }
 
 // Where the parts of an accepted table stand, with its lists of rules by head; or why it is refused. What the lists held before does not matter.
-pub fn judge_by(words: &[i32], buffer: Buffer, lists: &mut Lists) -> Reading
-    ensures { λ r. ⌜ Judged (now (words .entry)) buffer r × Filled (now (words .entry)) r (now (lists .exit)) ⌝ }
+pub fn judge_in(words: &[i32], cycles: bool, buffer: Buffer, lists: &mut Lists) -> Reading
+    ensures { λ r. ⌜ JudgedBy cycles (now (words .entry)) buffer r × Filled (now (words .entry)) r (now (lists .exit)) ⌝ }
 {
     if Table::WORDS < words.len() {
         return refused(Refusal::TooManyWords);
@@ -95,11 +94,18 @@ pub fn judge_by(words: &[i32], buffer: Buffer, lists: &mut Lists) -> Reading
     let bad = earned(buffer);
     match bad {
         Fault::Refused(f) => refused(f),
-        Fault::Nothing => words_judged(words, lists),
+        Fault::Nothing => words_judged(words, cycles, lists),
     }
 }
 
-// Where the parts of an accepted table stand, or why it is refused.
+// The same where head cycles are refused.
+pub fn judge_by(words: &[i32], buffer: Buffer, lists: &mut Lists) -> Reading
+    ensures { λ r. ⌜ Judged (now (words .entry)) buffer r × Filled (now (words .entry)) r (now (lists .exit)) ⌝ }
+{
+    judge_in(words, false, buffer, lists)
+}
+
+// Where the parts of an accepted table stand, or why it is refused; head cycles are refused.
 pub fn judge(words: &[i32], buffer: Buffer) -> Reading
     ensures { λ r. ⌜ Judged (now (words .entry)) buffer r ⌝ }
 {

@@ -55,8 +55,9 @@ pub enum Refusal {
     ShortList,
 }
 
-// What is asked with a table: the limit, any unsigned 32-bit number.
+// What is asked with a table: whether head cycles are taken (request 14), and the limit, any unsigned 32-bit number.
 pub struct Ask {
+    pub cycles: bool,
     pub limit: u32,
 }
 

@@ -10,7 +10,7 @@ use Rattle.table.specs.Grammar as grammar
 use Rattle.table.specs.Places.{tableOf}
 use Rattle.table.specs.declared.Reading.{Reading}
 use Rattle.table.proofs.Accepted.{fault-nothing, fault-refused, reading-accepted, reading-refused, accepted-laid}
-use Rattle.depend.specs.Cycles.{cycleOf}
+use Rattle.depend.specs.Cycles.{cycleBy}
 use Rattle.judging.specs.Refusals.{table}
 use Rattle.judging.specs.Judging.{refused, taken}
 use Rattle.judging.proofs.Judged.{cycle-refuses, none-accepts, same-cycles, no-fault}
@@ -49,13 +49,14 @@ refusal-requires : tie.Need-refusal-requires
 refusal-requires c κs = (laid (c .before .before .before .before), c .before .fill .ensures)
 
 -- the cycles of the contents are what was found
-cycles : (c : tie.After-refusal) → let h = holding (c .before .before .before .before .before) in cycleOf (h .0 .atoms) (program (h .0)) ≡ c .refusal .result
+cycles : (c : tie.After-refusal) → let y = c .before .before .before .before .before in let h = holding y in cycleBy (y .before .before .before .args .cycles) (h .0 .atoms) (program (h .0)) ≡ c .refusal .result
 cycles c =
     let y = c .before .before .before .before .before in
     let h = holding y in
-    let t = y .before .before .before .args .words .now in
-    sym (same-cycles t (h .0) (h .1))
-    ∙ ap (λ (tb : Table). cycleOf (tb .atoms) (programOf t tb)) (sym (h .2)) ∙ sym (c .refusal .ensures)
+    let a = y .before .before .before .args in
+    let t = a .words .now in
+    sym (same-cycles (a .cycles) t (h .0) (h .1))
+    ∙ ap (λ (tb : Table). cycleBy (a .cycles) (tb .atoms) (programOf t tb)) (sym (h .2)) ∙ sym (c .refusal .ensures)
 
 enum-told-3 : tie.Need-enum-told-3
 enum-told-3 c = search needs

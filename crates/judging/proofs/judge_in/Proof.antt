@@ -1,4 +1,4 @@
--- `judging::judge_by` meets its contract: 1, then what the entry's own buffer earns, then the words. Assumes nothing.
+-- `judging::judge_in` meets its contract: 1, then what the entry's own buffer earns, then the words. Assumes nothing.
 use borrow.Author.Needs.{needs}
 use mathlib.Core.Path.{_≡_, refl, sym, ap, _∙_}
 use Rattle.results.specs.declared.Refusal.the-variants as refusal
@@ -6,8 +6,8 @@ use Rattle.table.specs.declared.Reading.{Reading}
 use Rattle.judging.specs.Refusals.{words, buffer}
 use Rattle.judging.specs.Judging.{refused}
 use Rattle.judging.proofs.Judged.{fault-good, fault-bad, no-fault}
-use Rattle.judging.proofs.judge_by.Statement.{statement}
-use Rattle.judging.proofs.judge_by.Tie as tie
+use Rattle.judging.proofs.judge_in.Statement.{statement}
+use Rattle.judging.proofs.judge_in.Tie as tie
 
 refused-requires : tie.Need-refused-requires
 refused-requires c κs = search needs
@@ -46,7 +46,7 @@ returns-3 c =
     let b = i .before .args .buffer in
     (c .words-judged .ensures .0 (i .if1 .left) b (fault-good b (sym (e .earned .ensures) ∙ k .enum-told .given .1)), c .words-judged .ensures .1)
 
-pub judge-by-spec : {M : Type 1} → statement M
-judge-by-spec =
+pub judge-in-spec : {M : Type 1} → statement M
+judge-in-spec =
     tie.close
     (tie.spec refused-requires returns earned-requires enum-known-bad refused-requires-2 enum-told words-judged-requires returns-2 returns-3)
