@@ -77,7 +77,7 @@ shown-by n limit k s p old = refl
 
 -- ---- what meets the promise shows what the definitions report
 
-module _ (t : List ℤ) (lim : ℕ) (old new : List ℕ) (r : Solved) (short : length t ≤ 16384) (wide : 256 ≤ length old) (S : Solving t (record { limit = lim }) old new r) where
+module _ (t : List ℤ) (lim : ℕ) (old new : List ℕ) (r : Solved) (short : length t ≤ 16384) (wide : 256 ≤ length old) (S : Solving t (record { cycles = false; limit = lim }) old new r) where
   refusal-shown : (n : ℕ) (f : Refusal) → Refused t (Plan (length old)) (numberOf f) (placeOf f) → shownSolved n r new ≡ shownRefusal f
   refusal-shown n f h = ap (λ (x : Solved). shownSolved n x new) (report-determines r (solved.Refused f) (S .refused (numberOf f) (placeOf f) .1 h))
 
@@ -96,7 +96,7 @@ module _ (t : List ℤ) (lim : ℕ) (old new : List ℕ) (r : Solved) (short : l
   pub shown-solved : shownSolved (atomsIn (grammar.contentsOf t)) r new ≡ shownFor jump t lim
   shown-solved = by-contents (grammar.contentsOf t) refl
 
-pub case-solved : (c : Case) → c ∈ cases → (old new : List ℕ) (r : Solved) → 256 ≤ length old → Solving (c .words) (record { limit = c .limit }) old new r
+pub case-solved : (c : Case) → c ∈ cases → (old new : List ℕ) (r : Solved) → 256 ≤ length old → Solving (c .words) (record { cycles = false; limit = c .limit }) old new r
     → shownSolved (atomsIn (grammar.contentsOf (c .words))) r new ≡ c .jumps
 unfolding asReported
 case-solved c m old new r wide S =

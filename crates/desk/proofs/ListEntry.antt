@@ -1,5 +1,6 @@
 -- Four stores make the report of a listing, where there is room; and the promise of `saucepebbly_list` has one answer only. Assumes nothing.
 use mathlib.Core.Path.{_≡_, refl, sym, _∙_, ap}
+use mathlib.Core.Bool.{false}
 use mathlib.Core.List.{List, [], _∷_}
 use Prim.Native.Nat.{ℕ, _≤_, _<_}
 use native.Mathlib.Omega.{arith}
@@ -32,7 +33,7 @@ four-stored (w ∷ x ∷ y ∷ z ∷ []) (a ∷ b ∷ c ∷ []) e h = absurd (om
 pub list-unique-in-c : (t : List ℤ) (lim : ℕ) (old report new new′ told told′ : List ℕ) (k k′ : ℕ) → ListsPlans t lim old new report told k → ListsPlans t lim old new′ report told′ k′
     → (k ≡ k′) × (new ≡ new′) × (told ≡ told′)
 list-unique-in-c t lim old report new new′ told told′ k k′ a b =
-    let u = lists-unique t (record { limit = lim }) old new new′ (a .result) (b .result) (a .listing) (b .listing) in (
+    let u = lists-unique t (record { cycles = false; limit = lim }) old new new′ (a .result) (b .result) (a .listing) (b .listing) in (
       a .kind ∙ ap listKind (u .0) ∙ sym (b .kind),
       u .1,
       a .report ∙ ap (λ (r : Listed). fourWritten (numbersOf r) report) (u .0) ∙ sym (b .report),

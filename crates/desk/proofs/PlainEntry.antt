@@ -1,5 +1,6 @@
 -- The promise of `saucepebbly_plain` has one answer only, and the place that it reports is the refusal's own. Assumes nothing.
 use mathlib.Core.Path.{_≡_, sym, _∙_, ap}
+use mathlib.Core.Bool.{false}
 use mathlib.Core.List.{List}
 use Prim.Native.Nat.{ℕ, _≤_}
 use native.Mathlib.Omega.{arith}
@@ -18,7 +19,7 @@ use Rattle.desk.specs.Plain.{SolvesPlainly}
 pub plainly-unique-in-c : (t : List ℤ) (lim : ℕ) (old report : List ℕ) (new new′ told told′ : List ℕ) (k k′ : ℕ) → SolvesPlainly t lim old new report told k → SolvesPlainly t lim old new′ report told′ k′
     → (k ≡ k′) × (new ≡ new′) × (told ≡ told′)
 plainly-unique-in-c t lim old report new new′ told told′ k k′ a b =
-    let u = plainly-unique t (record { limit = lim }) old new new′ (a .result) (b .result) (a .solving) (b .solving) in (
+    let u = plainly-unique t (record { cycles = false; limit = lim }) old new new′ (a .result) (b .result) (a .solving) (b .solving) in (
       a .kind ∙ ap kindOf (u .0) ∙ sym (b .kind),
       u .1,
       a .report ∙ ap (λ (r : Solved). reported (firstOf r) (secondOf r) report) (u .0) ∙ sym (b .report),

@@ -4,6 +4,7 @@
 --   fourWritten                       a lent report afterwards: the four numbers at its front, if it has four places; else nothing is written
 -- Assumes nothing.
 use mathlib.Core.Path.{_≡_}
+use mathlib.Core.Bool.{false}
 use mathlib.Core.List.{List, [], _∷_, _++_}
 use Prim.Native.Nat.{ℕ}
 use lib.IntN.{ℤ}
@@ -36,6 +37,6 @@ fourWritten four (a ∷ b ∷ c ∷ d ∷ rest) = four ++ rest
 
 pub record ListsPlans (t : List ℤ) (lim : ℕ) (oldRows newRows oldReport newReport : List ℕ) (k : ℕ) : Type 0 where
   pub result : Listed
-  pub listing : Listing t (record { limit = lim }) oldRows newRows result
+  pub listing : Listing t (record { cycles = false; limit = lim }) oldRows newRows result
   pub kind : k ≡ listKind result
   pub report : newReport ≡ fourWritten (numbersOf result) oldReport

@@ -2,6 +2,7 @@
 -- believed.
 -- Assumes nothing.
 use mathlib.Core.Path.{_≡_}
+use mathlib.Core.Bool.{false}
 use mathlib.Core.List.{List}
 use Prim.Native.Nat.{ℕ}
 use lib.IntN.{ℤ}
@@ -12,6 +13,6 @@ use Rattle.reports.specs.Report.{firstOf, secondOf, reported}
 
 pub record SolvesPlainly (t : List ℤ) (lim : ℕ) (oldPlan newPlan oldReport newReport : List ℕ) (k : ℕ) : Type 0 where
   pub result : Solved
-  pub solving : Plainly t (record { limit = lim }) oldPlan newPlan result
+  pub solving : Plainly t (record { cycles = false; limit = lim }) oldPlan newPlan result
   pub kind : k ≡ kindOf result
   pub report : newReport ≡ reported (firstOf result) (secondOf result) oldReport

@@ -80,7 +80,10 @@ pub extern "C" fn saucepebbly_list(
 ) -> u32
     ensures { λ k. ⌜ ListsPlans (now (words .entry)) limit (now (rows .entry)) (now (rows .exit)) (now (report .entry)) (now (report .exit)) k ⌝ }
 {
-    let ask = Ask { limit };
+    let ask = Ask {
+        cycles: false,
+        limit,
+    };
     let listed = lister::list_with(words, ask, rows, lists, candidates);
     write_four(report, numbers(listed));
     list_kind(listed)

@@ -16,7 +16,10 @@ pub extern "C" fn saucepebbly_plain(
 ) -> u32
     ensures { λ k. ⌜ SolvesPlainly (now (words .entry)) limit (now (plan .entry)) (now (plan .exit)) (now (report .entry)) (now (report .exit)) k ⌝ }
 {
-    let ask = Ask { limit };
+    let ask = Ask {
+        cycles: false,
+        limit,
+    };
     let solved = plain::solve(words, ask, plan);
     write(report, first(solved), second(solved));
     kind(solved)

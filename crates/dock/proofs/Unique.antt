@@ -1,5 +1,6 @@
 -- Each entry's promise has one answer only: the kind, the report, the later plan and the rounds and rules. Assumes nothing.
 use mathlib.Core.Path.{_≡_, sym, _∙_, ap}
+use mathlib.Core.Bool.{false}
 use mathlib.Core.List.{List}
 use Prim.Native.Nat.{ℕ}
 use lib.IntN.{ℤ}
@@ -15,7 +16,7 @@ module _ (t : List ℤ) (lim : ℕ) (old report whys : List ℕ) where
   pub solves-unique : (new new′ told told′ shown shown′ : List ℕ) (k k′ : ℕ) → Solves t lim old new report told whys shown k → Solves t lim old new′ report told′ whys shown′ k′
       → (k ≡ k′) × (new ≡ new′) × (told ≡ told′) × (shown ≡ shown′)
   solves-unique new new′ told told′ shown shown′ k k′ a b =
-      let u = solution-unique t (record { limit = lim }) old new new′ (record { solved = a .result; whys = a .records }) (record { solved = b .result; whys = b .records }) (a .solving, a .explaining) (b .solving, b .explaining) in (
+      let u = solution-unique t (record { cycles = false; limit = lim }) old new new′ (record { solved = a .result; whys = a .records }) (record { solved = b .result; whys = b .records }) (a .solving, a .explaining) (b .solving, b .explaining) in (
         a .kind ∙ ap (λ (r : Solution). kindOf (r .solved)) (u .0) ∙ sym (b .kind),
         u .1,
         a .report ∙ ap (λ (r : Solution). withThird (thirdOf (r .solved)) (reported (firstOf (r .solved)) (secondOf (r .solved)) report)) (u .0) ∙ sym (b .report),

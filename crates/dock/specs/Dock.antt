@@ -2,6 +2,7 @@
 -- numbers (crate `reports`), and of an answer the rounds and rules as numbers. Definitions only: to be believed.
 -- Assumes nothing.
 use mathlib.Core.Path.{_≡_}
+use mathlib.Core.Bool.{false}
 use mathlib.Core.List.{List}
 use Prim.Native.Nat.{ℕ}
 use lib.IntN.{ℤ}
@@ -27,7 +28,7 @@ checkReport (checked.Refused f) old = reported (numberOf f) (narrow (placeOf f))
 pub record Solves (t : List ℤ) (lim : ℕ) (oldPlan newPlan oldReport newReport oldWhys newWhys : List ℕ) (k : ℕ) : Type 0 where
   pub result : Solved
   pub records : List Why
-  pub solving : Solving t (record { limit = lim }) oldPlan newPlan result
+  pub solving : Solving t (record { cycles = false; limit = lim }) oldPlan newPlan result
   pub explaining : Explaining t (Plan (length oldPlan)) newPlan result records
   pub kind : k ≡ kindOf result
   pub report : newReport ≡ withThird (thirdOf result) (reported (firstOf result) (secondOf result) oldReport)

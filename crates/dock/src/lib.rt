@@ -20,7 +20,10 @@ pub extern "C" fn saucepebbly_solve(
 ) -> u32
     ensures { λ k. ⌜ Solves (now (words .entry)) limit (now (plan .entry)) (now (plan .exit)) (now (report .entry)) (now (report .exit)) (now (whys .entry)) (now (whys .exit)) k ⌝ }
 {
-    let ask = Ask { limit };
+    let ask = Ask {
+        cycles: false,
+        limit,
+    };
     let solution = solver::solve_with(words, ask, plan, lists, candidates);
     let solved = solution.solved;
     let records = solution.whys;

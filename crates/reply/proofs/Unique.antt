@@ -1,5 +1,6 @@
 -- A text has one line only: two that meet the promise for the same text and buffer are equal. Assumes nothing.
 use mathlib.Core.Path.{_≡_, refl, sym, _∙_, ap, subst}
+use mathlib.Core.Bool.{false}
 use mathlib.Core.List.{List}
 use Prim.Native.Nat.{ℕ}
 use lib.IntN.{ℤ}
@@ -13,7 +14,7 @@ use Rattle.reply.specs.Reply.{noPlan, Tells, Replies}
 
 tells-unique : (t : List ℤ) (lim : ℕ) (old : List ℕ) (wrote wrote′ : ℕ) (new new′ : List ℕ) → Tells t lim old wrote new → Tells t lim old wrote′ new′ → (wrote ≡ wrote′) × (new ≡ new′)
 tells-unique t lim old wrote wrote′ new new′ a b =
-    let u = solving-unique t (record { limit = lim }) noPlan (a .plan) (b .plan) (a .result) (b .result) (a .solving) (b .solving) in
+    let u = solving-unique t (record { cycles = false; limit = lim }) noPlan (a .plan) (b .plan) (a .result) (b .result) (a .solving) (b .solving) in
     let l : PrintAs (b .result) 256 (b .plan) old wrote new = subst (λ (p : List ℕ). PrintAs (b .result) 256 p old wrote new) (u .1) (subst (λ (r : Solved). PrintAs r 256 (a .plan) old wrote new) (u .0) (a .line)) in
     print-unique (b .result) 256 (b .plan) old new new′ wrote wrote′ l (b .line)
 

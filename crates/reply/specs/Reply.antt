@@ -5,6 +5,7 @@
 -- `wrote` is how much was written to the front of the buffer `old`, and `new` is what the buffer then holds.
 -- Assumes nothing.
 use mathlib.Core.Path.{_≡_}
+use mathlib.Core.Bool.{false}
 use mathlib.Core.List.{List, []}
 use Prim.Native.Nat.{ℕ}
 use lib.IntN.{ℤ}
@@ -22,7 +23,7 @@ noPlan = replicate 256 0
 pub record Tells (t : List ℤ) (lim : ℕ) (old : List ℕ) (wrote : ℕ) (new : List ℕ) : Type 0 where
   pub result : Solved
   pub plan : List ℕ
-  pub solving : Solving t (record { limit = lim }) noPlan plan result
+  pub solving : Solving t (record { cycles = false; limit = lim }) noPlan plan result
   pub line : PrintAs result 256 plan old wrote new
 
 pub record Replies (bs old : List ℕ) (wrote : ℕ) (new : List ℕ) : Type 0 where

@@ -11,7 +11,10 @@ fn tell(words: &[i32], limit: u32, out: &mut [u8]) -> usize
     ensures { λ r. ⌜ Tells (now (words .entry)) limit (now (out .entry)) r (now (out .exit)) ⌝ }
 {
     let mut plan = [0u8; 256];
-    let ask = Ask { limit };
+    let ask = Ask {
+        cycles: false,
+        limit,
+    };
     let solution = solver::solve(words, ask, &mut plan);
     let solved = solution.solved;
     print(solved, 256, &plan, out)

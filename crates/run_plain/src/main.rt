@@ -53,7 +53,10 @@ fn same_plan(a: &[u8; 256], b: &[u8; 256]) -> bool {
 // Both engines on a table.
 fn run_table(words: &[i32], limit: u32) {
     let mut plan = [0u8; 256];
-    let ask = Ask { limit };
+    let ask = Ask {
+        cycles: false,
+        limit,
+    };
     let solved = plain::solve(words, ask, &mut plan);
     print_line(solved, &plan);
     let mut other = [0u8; 256];

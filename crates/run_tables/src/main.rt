@@ -122,7 +122,10 @@ fn print_plans(is_accepted: bool, table: &[i32], plan: &mut [u8]) {
 // A case's line.
 fn print_line(table: &[i32], plan: &mut [u8]) {
     let checked = solver::approve(table, plan);
-    let ask = Ask { limit: 4294967295 };
+    let ask = Ask {
+        cycles: false,
+        limit: 4294967295,
+    };
     let solution = solver::solve(table, ask, plan);
     let solved = solution.solved;
     print_solved(solved, plan);

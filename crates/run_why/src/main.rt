@@ -62,7 +62,10 @@ fn print_whys(whys: [Why; 256]) {
 // Both lines of a table.
 fn run_table(words: &[i32], limit: u32) {
     let mut plan = [0u8; 256];
-    let ask = Ask { limit };
+    let ask = Ask {
+        cycles: false,
+        limit,
+    };
     let solution = solver::solve(words, ask, &mut plan);
     let solved = solution.solved;
     let whys = solution.whys;
