@@ -1,10 +1,11 @@
 // The jumping search over an accepted table (01, "Propagation" and "Reasons and jumps"). It starts from a state that is handed in and hands the
-// state at its end back, so that it can begin with pins and go on after a plan. Meaning: crates `steps` and `search`; how the code's structs are
+// state at its end back, so that it can begin with pins and go on after a plan. `cycles`: the call takes head cycles (request 14). Meaning: crates `steps`, `search` and
+// `smaller`; how the code's structs are
 // read: `specs/Jumping.antt`. What can be asked through lent values stands apart (crates `rules`, `support`, `turns`); what changes the state stands in
 // the loop of `search_by`, so that the reasons exist once.
 ghost use Rattle.layout.specs.Layout.{Laid, programOf};
 ghost use Rattle.heads.specs.Heads.{Listed};
-ghost use Rattle.search.specs.Base.{base};
+ghost use Rattle.smaller.specs.Cyclic.{baseBy};
 ghost use Rattle.jumping.specs.Jumping.{Ready, Searches, Solves};
 use foundation::Candidates;
 use heads::Lists;
@@ -25,6 +26,7 @@ use turns::Turn;
 pub fn search_by(
     t: &[i32],
     tb: Table,
+    cycles: bool,
     lists: &Lists,
     limit: u32,
     from: Start,
@@ -32,7 +34,7 @@ pub fn search_by(
     candidates: &mut Candidates,
 ) -> Halt
     requires { ⌜ Laid (now t) tb × Listed (now t) tb (now lists) × Ready (tb .atoms) limit from ⌝ }
-    ensures { λ r. ⌜ Searches (base (programOf (now (t .entry)) tb) (tb .atoms)) limit from rows0 r ⌝ }
+    ensures { λ r. ⌜ Searches (baseBy cycles (programOf (now (t .entry)) tb) (tb .atoms)) limit from rows0 r ⌝ }
 {
     let mut it = from.it;
     let mut reasons = rows0;
@@ -138,7 +140,7 @@ pub fn search_by(
             made += 1;
         };
         most = turns::greater(most, made);
-        let turn = turns::decide(t, tb, out, &it.values, choices, limit, candidates);
+        let turn = turns::decide(t, tb, cycles, out, &it.values, choices, limit, candidates);
         match turn {
             Turn::Answer(spent) => {
                 choices += spent;
@@ -201,9 +203,16 @@ pub fn search_by(
 }
 
 // The search over an accepted table from its start, by the lists of its rules. What the candidates' array held before does not matter.
-pub fn search(t: &[i32], tb: Table, lists: &Lists, limit: u32, candidates: &mut Candidates) -> Found
+pub fn search(
+    t: &[i32],
+    tb: Table,
+    cycles: bool,
+    lists: &Lists,
+    limit: u32,
+    candidates: &mut Candidates,
+) -> Found
     requires { ⌜ Laid (now t) tb × Listed (now t) tb (now lists) ⌝ }
-    ensures { λ r. ⌜ Solves (base (programOf (now (t .entry)) tb) (tb .atoms)) limit r ⌝ }
+    ensures { λ r. ⌜ Solves (baseBy cycles (programOf (now (t .entry)) tb) (tb .atoms)) limit r ⌝ }
 {
     let it = Interpretation::start();
     let from = Start {
@@ -213,6 +222,6 @@ pub fn search(t: &[i32], tb: Table, lists: &Lists, limit: u32, candidates: &mut 
         passes: 0,
     };
     let reasons = levels::no_rows();
-    let halt = search_by(t, tb, lists, limit, from, reasons, candidates);
+    let halt = search_by(t, tb, cycles, lists, limit, from, reasons, candidates);
     halt.found
 }

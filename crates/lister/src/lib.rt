@@ -33,7 +33,7 @@ pub fn list_with(
         Fault::Refused(f) => Listed::Refused(f),
         Fault::Nothing => {
             let tb = judged.table;
-            let told = listing::list_by(words, tb, lists, ask.limit, rows, candidates);
+            let told = listing::list_by(words, tb, false, lists, ask.limit, rows, candidates);
             result(told)
         }
     }

@@ -19,7 +19,7 @@ use Rattle.outcome.specs.declared.Halt.{Halt}
 use Rattle.outcome.specs.declared.Ending.{Ending}
 use Rattle.outcome.specs.declared.Ending.the-variants as ending
 use Rattle.search.specs.Search.{Problem, Branch, answer, noAnswer, State, Outcome, go, end, jump, jumpedReason, propagated, turn, start}
-use Rattle.search.specs.Base.{base}
+use Rattle.smaller.specs.Cyclic.{baseBy}
 use Rattle.search.specs.Listing.{Jumped, Listed, goOn, stop, jumpedOver, stopped, resumed, onward, listTurn, alone, listAll}
 use Rattle.search.proofs.Fuel.{meas}
 use Rattle.search.proofs.ListRuns.{ListEnds, list-ends-on, list-less}
@@ -56,11 +56,11 @@ module _ (choice : ℕ → ℕ) where
 
 -- ---- a plan is listed
 
-module _ (Q : Program) (n lim room : ℕ) (old new new′ : List ℕ) (from : Start) (reasons : List (List ℕ)) (number : ℕ) (D : Done (base Q n) lim room old new from reasons number)
-    (h : Halt) (S : Searched (base Q n) lim (stateOf from reasons (D .skipped)) h) (found : h .found .ending ≡ ending.Answer) (fits : number < room)
+module _ (cycles : Bool) (Q : Program) (n lim room : ℕ) (old new new′ : List ℕ) (from : Start) (reasons : List (List ℕ)) (number : ℕ) (D : Done (baseBy cycles Q n) lim room old new from reasons number)
+    (h : Halt) (S : Searched (baseBy cycles Q n) lim (stateOf from reasons (D .skipped)) h) (found : h .found .ending ≡ ending.Answer) (fits : number < room)
     (written : new′ ≡ rowPut (trueAtoms n (view (h .found .it) .cell)) (number * 256) 256 new) where
   abbrev P : Problem
-  P = base Q n
+  P = baseBy cycles Q n
 
   abbrev X : Atoms
   X = trueAtoms n (view (h .found .it) .cell)

@@ -8,7 +8,7 @@ ghost use Rattle.interpretation.specs.View.{view, valued, choices};
 ghost use Rattle.layout.specs.Layout.{Laid, programOf};
 ghost use Rattle.heads.specs.Heads.{Listed};
 ghost use Rattle.levels.specs.Levels.{upTo};
-ghost use Rattle.search.specs.Base.{base};
+ghost use Rattle.smaller.specs.Cyclic.{baseBy};
 ghost use Rattle.turns.specs.Turns.{ChosenIn, backOf};
 ghost use Rattle.listing.specs.Rows.{rowByte, rowPut, ListsBy};
 use foundation::Candidates;
@@ -117,13 +117,14 @@ fn again(found: Found, it: Interpretation) -> Start
 pub fn list_by(
     t: &[i32],
     tb: Table,
+    cycles: bool,
     lists: &Lists,
     limit: u32,
     rows: &mut [u8],
     candidates: &mut Candidates,
 ) -> Told
     requires { ⌜ Laid (now t) tb × Listed (now t) tb (now lists) ⌝ }
-    ensures { λ r. ⌜ ListsBy (base (programOf (now (t .entry)) tb) (tb .atoms)) limit (length (now (rows .entry)) / 256) (now (rows .entry)) (now (rows .exit)) r ⌝ }
+    ensures { λ r. ⌜ ListsBy (baseBy cycles (programOf (now (t .entry)) tb) (tb .atoms)) limit (length (now (rows .entry)) / 256) (now (rows .entry)) (now (rows .exit)) r ⌝ }
 {
     let room = rows.len() / ROW;
     let n = tb.atoms;
@@ -131,7 +132,7 @@ pub fn list_by(
     let mut reasons = levels::no_rows();
     let mut number: usize = 0;
     loop {
-        let halt = jumping::search_by(t, tb, lists, limit, from, reasons, candidates);
+        let halt = jumping::search_by(t, tb, cycles, lists, limit, from, reasons, candidates);
         let found = halt.found;
         let ending = found.ending;
         match ending {

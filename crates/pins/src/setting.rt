@@ -98,6 +98,6 @@ pub fn search(
         passes: 0,
     };
     let reasons = levels::no_rows();
-    let halt = jumping::search_by(t, tb, lists, limit, from, reasons, candidates);
+    let halt = jumping::search_by(t, tb, false, lists, limit, from, reasons, candidates);
     halt.found
 }

@@ -58,7 +58,7 @@ pub fn solve_with(
         Fault::Nothing => {
             let tb = judged.table;
             let limit = ask.limit;
-            let found = jumping::search(words, tb, lists, limit, candidates);
+            let found = jumping::search(words, tb, false, lists, limit, candidates);
             let atoms = tb.atoms;
             let solved = plans::report(found, atoms, plan);
             let whys = whys_for(words, tb, solved, plan);

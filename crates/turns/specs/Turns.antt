@@ -1,5 +1,4 @@
 -- What a turn of the search asks after its propagation, in the terms of crate `search` (01, "Reasons and jumps"). Definitions only.
---   testedOf     what the final test says
 --   turnOf       what a turn does after propagation, by how that ended, the lowest undefined atom, the final test and the limit
 --   blamed       the reason of a conflict: propagation's, or "all present levels" where the final test failed
 --   backOf       where a conflict leads: "C empty adds k skips and ends", "otherwise m, the highest in C, adds k - m skips"
@@ -11,17 +10,10 @@ use Rattle.levels.specs.Levels.{Levels, upTo, highest}
 use Rattle.outcome.specs.declared.Outcome.{Outcome}
 use Rattle.outcome.specs.declared.Outcome.the-variants as outcome
 use Rattle.search.specs.Search.{Tested, passed, failed, exhausted}
-use Rattle.turns.specs.declared.Tested as test
-use Rattle.turns.specs.declared.Tested.the-variants.{Passed, Failed, Exhausted}
 use Rattle.turns.specs.declared.Turn.{Turn}
 use Rattle.turns.specs.declared.Turn.the-variants.{Answer, Limit, Choose, Conflict}
 use Rattle.turns.specs.declared.Back.{Back}
 use Rattle.turns.specs.declared.Back.the-variants.{End, Level}
-
-abbrev pub testedOf : test.Tested → Tested
-testedOf (Passed n) = passed n
-testedOf (Failed n) = failed n
-testedOf Exhausted = exhausted
 
 -- `left` is the number of choices that are left
 abbrev pub turnOf : ℕ → Outcome → Option ℕ → Tested → Bool → Turn

@@ -3,24 +3,18 @@
 ghost use mathlib.Core.Path.{_≡_};
 ghost use Prim.Native.Nat.{_-_, _≤_, max};
 ghost use lib.Dec.{ltb};
-ghost use Rattle.meaning.specs.Foundedness.{founded};
 ghost use Rattle.levels.specs.View.{row};
 ghost use Rattle.interpretation.specs.State.{lowest, trueAtoms, AllDefined};
 ghost use Rattle.interpretation.specs.View.{choices, found, valued};
 ghost use Rattle.layout.specs.Layout.{Laid, programOf};
-ghost use Rattle.search.specs.Base.{verdictOf};
-ghost use Rattle.turns.specs.Turns.{testedOf, turnOf, blamed, ChosenIn, backOf};
+ghost use Rattle.smaller.specs.Cyclic.{testBy};
+ghost use Rattle.second_search.specs.Looking.{testedOf};
+ghost use Rattle.turns.specs.Turns.{turnOf, blamed, ChosenIn, backOf};
 use foundation::Candidates;
 use interpretation::Choice;
 use layout::Table;
 use outcome::Outcome;
-
-// What the final test says of a total interpretation, with the choices that it spent; exhausted: the limit stopped it.
-pub enum Tested {
-    Passed(u32),
-    Failed(u32),
-    Exhausted,
-}
+use second_search::Tested;
 
 // What a turn does after propagation; where the final test was made, with the choices that it spent.
 pub enum Turn {
@@ -60,11 +54,21 @@ pub fn lowest_undefined(values: &[u8; 256], n: usize) -> Choice
     Choice::Nothing
 }
 
-// The final test: foundedness, which spends no choices.
-pub fn test(t: &[i32], tb: Table, values: &[u8; 256], candidates: &mut Candidates) -> Tested
+// The final test of a total interpretation, with so many choices left: foundedness, which spends none; or, where the call takes head cycles, the second search.
+pub fn test(
+    t: &[i32],
+    tb: Table,
+    cycles: bool,
+    values: &[u8; 256],
+    left: u32,
+    candidates: &mut Candidates,
+) -> Tested
     requires { ⌜ Laid (now t) tb × AllDefined (tb .atoms) (valued (now values)) ⌝ }
-    ensures { λ r. ⌜ testedOf r ≡ verdictOf (founded (programOf (now (t .entry)) tb) (tb .atoms) (trueAtoms (tb .atoms) (valued (now (values .entry))))) ⌝ }
+    ensures { λ r. ⌜ testedOf r ≡ testBy cycles (programOf (now (t .entry)) tb) (tb .atoms) left (trueAtoms (tb .atoms) (valued (now (values .entry)))) ⌝ }
 {
+    if cycles {
+        return second_search::look(t, tb, values, left);
+    }
     if foundation::founded_by(t, tb, values, candidates) {
         return Tested::Passed(0);
     }
@@ -75,6 +79,7 @@ pub fn test(t: &[i32], tb: Table, values: &[u8; 256], candidates: &mut Candidate
 pub fn decide(
     t: &[i32],
     tb: Table,
+    cycles: bool,
     out: Outcome,
     values: &[u8; 256],
     choices: u32,
@@ -82,7 +87,7 @@ pub fn decide(
     candidates: &mut Candidates,
 ) -> Turn
     requires { ⌜ Laid (now t) tb × (choices ≤ limit) ⌝ }
-    ensures { λ r. ⌜ r ≡ turnOf (limit - choices) out (lowest (valued (now (values .entry))) (tb .atoms)) (verdictOf (founded (programOf (now (t .entry)) tb) (tb .atoms) (trueAtoms (tb .atoms) (valued (now (values .entry)))))) (ltb choices limit) ⌝ }
+    ensures { λ r. ⌜ r ≡ turnOf (limit - choices) out (lowest (valued (now (values .entry))) (tb .atoms)) (testBy cycles (programOf (now (t .entry)) tb) (tb .atoms) (limit - choices) (trueAtoms (tb .atoms) (valued (now (values .entry))))) (ltb choices limit) ⌝ }
 {
     match out {
         Outcome::Conflict => Turn::Conflict(0),
@@ -98,7 +103,7 @@ pub fn decide(
                 }
                 Choice::Nothing => {
                     let left = limit - choices;
-                    let tested = test(t, tb, values, candidates);
+                    let tested = test(t, tb, cycles, values, left, candidates);
                     match tested {
                         Tested::Passed(spent) => Turn::Answer(spent),
                         Tested::Failed(spent) => Turn::Conflict(spent),

@@ -73,7 +73,7 @@ returns-2 c =
     let e : listAll (base (program d) (d .atoms)) jump (a .ask .limit) (rooms (a .rows .now)) ≡ some o =
     ap (λ (P : Program). listAll (base P (d .atoms)) jump (a .ask .limit) (rooms (a .rows .now))) (sym (p .rules))
     ∙ ap (λ (n : ℕ). listAll (base (programOf (a .words .now) tb) n) jump (a .ask .limit) (rooms (a .rows .now))) (sym (p .atoms)) ∙ g .listed in
-    listing-accepted (a .words .now) (a .ask) (a .rows .now) (l .list-by .last .1 .1 .1 .1 .0) d (x .1) (accepted-atoms (a .words .now) d (x .1 .holds)) (ranges (a .words .now) d (x .1 .holds) .fewAtoms) o e
+    listing-accepted (a .words .now) (a .ask) (a .rows .now) (l .list-by .last .1 .1 .1 .1 .1 .0) d (x .1) (accepted-atoms (a .words .now) d (x .1 .holds)) (ranges (a .words .now) d (x .1 .holds) .fewAtoms) o e
     (c .result .result) (c .result .ensures ∙ ap resultOf (g .result) ∙ told-by o) (g .rows)
 
 pub list-with-spec : {M : Type 1} → statement M

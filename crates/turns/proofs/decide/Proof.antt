@@ -6,16 +6,16 @@ use mathlib.Core.Bool.{Bool}
 use mathlib.Core.Option.{Option, none, some}
 use Prim.Native.Nat.{ℕ, _-_}
 use lib.Dec.{ltb}
-use Rattle.meaning.specs.Foundedness.{founded}
 use Rattle.interpretation.specs.State.{lowest, trueAtoms}
 use Rattle.interpretation.specs.View.{valued, found}
 use Rattle.layout.specs.Layout.{programOf}
 use Rattle.outcome.specs.declared.Outcome.{Outcome}
 use Rattle.outcome.specs.declared.Outcome.the-variants as O
 use Rattle.search.specs.Search.{Tested}
-use Rattle.search.specs.Base.{verdictOf}
 use Rattle.search.proofs.Parts.{lowest-none}
-use Rattle.turns.specs.Turns.{testedOf, turnOf}
+use Rattle.smaller.specs.Cyclic.{testBy}
+use Rattle.second_search.specs.Looking.{testedOf}
+use Rattle.turns.specs.Turns.{turnOf}
 use Rattle.turns.specs.declared.Turn.{Turn}
 use Rattle.turns.proofs.decide.Statement.{statement}
 use Rattle.turns.proofs.decide.Tie as tie
@@ -28,7 +28,7 @@ abbrev atom : tie.Start → Option ℕ
 atom s = lowest (valued (s .args .values .now)) (s .args .tb .atoms)
 
 abbrev tests : tie.Start → Tested
-tests s = verdictOf (founded (programOf (s .args .t .now) (s .args .tb)) (s .args .tb .atoms) (trueAtoms (s .args .tb .atoms) (valued (s .args .values .now))))
+tests s = testBy (s .args .cycles) (programOf (s .args .t .now) (s .args .tb)) (s .args .tb .atoms) (left s) (trueAtoms (s .args .tb .atoms) (valued (s .args .values .now)))
 
 abbrev more : tie.Start → Bool
 more s = ltb (s .args .choices) (s .args .limit)

@@ -71,7 +71,7 @@ struck c g r e =
     let d = spend (t .turn4 .given .0 .0) (reached y g) in
     let k = x .it .depth in
     turned y g
-    ∙ conflicts (programAt b) (a .tb .atoms) (a .limit) (reached y g) (x .out) (row (x .why)) (t .turn4 .given .0 .0) (decides (t .before .before) g _ (t .turn4 .given .1))
+    ∙ conflicts (a .cycles) (programAt b) (a .tb .atoms) (a .limit) (reached y g) (x .out) (row (x .why)) (t .turn4 .given .0 .0) (decides (t .before .before) g _ (t .turn4 .given .1))
     ∙ ap (λ (C : Levels). goBack d C (highest C k)) (sym (z .ensures))
     ∙ goes-back d (row (z .result)) (highest (row (z .result)) k)
     ∙ ap (led d (row (z .result))) (sym (c .go-back .ensures) ∙ e)
