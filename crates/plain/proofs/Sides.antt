@@ -144,7 +144,7 @@ module _ (t : List ℤ) (tb : Table) (lim : ℕ) where
     conflict-side z few old c e =
         chosen side old old (solved.Nothing c) true z (λ u h. record { result = ap solved.Nothing e; plan = refl }) (subst (λ (x : Counts). x .choices ≤ lim) (sym e) few)
 
-    pub tested-all : side .conflict ≡ false → lowest (valued (side .values)) n ≡ none → side .choices ≤ lim → (old new : List ℕ) (r : Solved) → Tests t tb side old new r
+    pub tested-all : side .conflict ≡ false → lowest (valued (side .values)) n ≡ none → side .choices ≤ lim → (old new : List ℕ) (r : Solved) → Tests t tb (side .values) (side .choices) old new r
         → Chosen t tb lim side old new r
     tested-all z l few old new r T =
         chosen side old new r false z
@@ -235,27 +235,27 @@ module _ (t : List ℤ) (tb : Table) (lim : ℕ) where
 
 -- ---- the final test
 
-module _ (t : List ℤ) (tb : Table) (side : Side) (old : List ℕ) (c : Counts) (e : c ≡ plainCounts (side .choices)) where
+module _ (t : List ℤ) (tb : Table) (values : List ℕ) (choices : ℕ) (old : List ℕ) (c : Counts) (e : c ≡ plainCounts choices) where
   abbrev X : Atoms
-  X = trueAtoms (tb .atoms) (valued (side .values))
+  X = trueAtoms (tb .atoms) (valued values)
 
   -- what is told by the test's result
   abbrev ends : Bool → Tried
-  ends f = byTest X (side .choices) (verdictOf f)
+  ends f = byTest X choices (verdictOf f)
 
-  tests : (f : Bool) → founded (programOf t tb) (tb .atoms) X ≡ f → (new : List ℕ) (r : Solved) → ((lim : ℕ) → Told (tb .atoms) lim (ends f) old new r) → countsOf r .choices ≡ side .choices
-      → Tests t tb side old new r
+  tests : (f : Bool) → founded (programOf t tb) (tb .atoms) X ≡ f → (new : List ℕ) (r : Solved) → ((lim : ℕ) → Told (tb .atoms) lim (ends f) old new r) → countsOf r .choices ≡ choices
+      → Tests t tb values choices old new r
   tests f z new r T same = record { says = λ lim. subst (λ (b : Bool). Told (tb .atoms) lim (ends b) old new r) (sym z) (T lim); same = same }
 
   -- the test opens no choice
-  none-opened : plainCounts (side .choices) ≡ plainCounts (0 + side .choices)
-  none-opened = let z : side .choices ≡ 0 + side .choices = omega arith in ap plainCounts z
+  none-opened : plainCounts choices ≡ plainCounts (0 + choices)
+  none-opened = let z : choices ≡ 0 + choices = omega arith in ap plainCounts z
 
-  pub passes-test : founded (programOf t tb) (tb .atoms) X ≡ true → (new : List ℕ) → new ≡ planWith (tb .atoms) X old → Tests t tb side old new (solved.Answer c)
+  pub passes-test : founded (programOf t tb) (tb .atoms) X ≡ true → (new : List ℕ) → new ≡ planWith (tb .atoms) X old → Tests t tb values choices old new (solved.Answer c)
   passes-test z new w =
       tests true z new (solved.Answer c) (λ lim. record { result = ap solved.Answer (e ∙ none-opened); plan = w }) (ap (λ (x : Counts). x .choices) e)
 
-  pub fails-test : founded (programOf t tb) (tb .atoms) X ≡ false → Tests t tb side old old (solved.Nothing c)
+  pub fails-test : founded (programOf t tb) (tb .atoms) X ≡ false → Tests t tb values choices old old (solved.Nothing c)
   fails-test z = tests false z old (solved.Nothing c) (λ lim. record { result = ap solved.Nothing (e ∙ none-opened); plan = refl }) (ap (λ (x : Counts). x .choices) e)
 
 -- ---- the whole search

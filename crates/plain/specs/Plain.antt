@@ -47,9 +47,9 @@ module _ (t : List ℤ) (tb : Table) where
     pub few : s .choices ≤ lim
     pub room : tb .atoms ≤ length plan
 
-  pub record Testable (s : Side) (plan : List ℕ) : Type 0 where
+  pub record Testable (values plan : List ℕ) : Type 0 where
     pub laid : Laid t tb
-    pub defined : AllDefined (tb .atoms) (valued (s .values))
+    pub defined : AllDefined (tb .atoms) (valued values)
     pub room : tb .atoms ≤ length plan
 
   pub record Sided (lim : ℕ) (s : Side) (old new : List ℕ) (r : Solved) : Type 0 where
@@ -63,9 +63,8 @@ module _ (t : List ℤ) (tb : Table) where
         (goesOn (base (programOf t tb) (tb .atoms)) lim (tries (base (programOf t tb) (tb .atoms)) lim u) (bare (s .values)) (s .choices) (verdictBy (s .conflict))) old new r
     pub few : countsOf r .choices ≤ lim
 
-  pub record Tests (s : Side) (old new : List ℕ) (r : Solved) : Type 0 where
+  pub record Tests (values : List ℕ) (choices : ℕ) (old new : List ℕ) (r : Solved) : Type 0 where
     pub says : (lim : ℕ)
         → Told (tb .atoms) lim
-        (byTest (trueAtoms (tb .atoms) (valued (s .values))) (s .choices)
-        (foundedTest (programOf t tb) (tb .atoms) 0 (trueAtoms (tb .atoms) (valued (s .values))))) old new r
-    pub same : countsOf r .choices ≡ s .choices
+        (byTest (trueAtoms (tb .atoms) (valued values)) choices (foundedTest (programOf t tb) (tb .atoms) 0 (trueAtoms (tb .atoms) (valued values)))) old new r
+    pub same : countsOf r .choices ≡ choices

@@ -5,6 +5,7 @@ ghost use mathlib.Core.Bool.{false};
 ghost use Rattle.plain.specs.Promise.{plainCounts, Plainly};
 ghost use Rattle.plain.specs.Plain.{Ready, Sided, Chosen, Testable, Tests};
 use heads::Lists;
+use interpretation::Choice;
 use layout::Table;
 use passes::Side;
 use results::Solved;
@@ -16,15 +17,13 @@ mod passes;
 pub fn solve(words: &[i32], ask: results::Ask, plan: &mut [u8]) -> Solved
     ensures { λ r. ⌜ Plainly (now (words .entry)) ask (now (plan .entry)) (now (plan .exit)) r ⌝ }
 {
-    let room = plan.len();
-    let judged = judging::judge(words, judging::Buffer::Plan(room));
+    let mut lists = [0u16; heads::SIZE];
+    let judged = judging::judge_by(words, judging::Buffer::Plan(plan.len()), &mut lists);
     let fault = judged.fault;
     match fault {
         table::Fault::Refused(f) => Solved::Refused(f),
         table::Fault::Nothing => {
             let tb = judged.table;
-            let mut lists = [0u16; heads::SIZE];
-            heads::fill(words, tb, &mut lists);
             let start = Side {
                 values: [0u8; 256],
                 choices: 0,
@@ -48,20 +47,22 @@ fn choose(t: &[i32], tb: Table, lists: &Lists, limit: u32, side: Side, plan: &mu
         return Solved::Nothing(counted(choices));
     }
     let lowest = turns::lowest_undefined(&side.values, tb.atoms);
-    let interpretation::Choice::Atom(p) = lowest else {
-        return tested(t, tb, side, plan);
-    };
-    if limit <= choices {
-        return Solved::Limit(counted(choices));
+    if let Choice::Atom(p) = lowest {
+        if limit <= choices {
+            return Solved::Limit(counted(choices));
+        }
+        let first = try_side(t, tb, lists, limit, side.on(p, true, choices + 1), plan);
+        return match first {
+            Solved::Nothing(n) => {
+                let sofar = n.choices;
+                try_side(t, tb, lists, limit, side.on(p, false, sofar), plan)
+            }
+            Solved::Answer(_) => first,
+            Solved::Limit(_) => first,
+            Solved::Refused(_) => first,
+        };
     }
-    let next = choices + 1;
-    let first = try_side(t, tb, lists, limit, side.with(p, true, next), plan);
-    match first {
-        Solved::Nothing(n) => try_side(t, tb, lists, limit, side.with(p, false, n.choices), plan),
-        Solved::Answer(_) => first,
-        Solved::Limit(_) => first,
-        Solved::Refused(_) => first,
-    }
+    tested(t, tb, &side.values, choices, plan)
 }
 
 // Tries a side of a choice: ".. then propagate again".
@@ -74,15 +75,15 @@ fn try_side(t: &[i32], tb: Table, lists: &Lists, limit: u32, side: Side, plan: &
 }
 
 // "If there is no conflict and all atoms are defined, test foundedness .. All true atoms added: answer. If not: conflict". An answer is the plan.
-fn tested(t: &[i32], tb: Table, side: Side, plan: &mut [u8]) -> Solved
-    requires { ⌜ Testable (now t) tb side (now plan) ⌝ }
-    ensures { λ r. ⌜ Tests (now (t .entry)) tb side (now (plan .entry)) (now (plan .exit)) r ⌝ }
+fn tested(t: &[i32], tb: Table, values: &[u8; 256], choices: u32, plan: &mut [u8]) -> Solved
+    requires { ⌜ Testable (now t) tb (now values) (now plan) ⌝ }
+    ensures { λ r. ⌜ Tests (now (t .entry)) tb (now (values .entry)) choices (now (plan .entry)) (now (plan .exit)) r ⌝ }
 {
-    if !foundation::founded(t, tb, &side.values) {
-        return Solved::Nothing(counted(side.choices));
+    if foundation::founded(t, tb, values) {
+        solver::plans::write(*values, tb.atoms, plan);
+        return Solved::Answer(counted(choices));
     }
-    solver::plans::write(side.values, tb.atoms, plan);
-    Solved::Answer(counted(side.choices))
+    Solved::Nothing(counted(choices))
 }
 
 // "It never jumps": no skips. Passes are not counted.

@@ -34,7 +34,7 @@ impl Side {
     }
 
     // The side on which atom p is v, when so many choices are opened.
-    pub fn with(mut self, p: usize, v: bool, choices: u32) -> Self
+    pub fn on(mut self, p: usize, v: bool, choices: u32) -> Self
         requires { ⌜ (1 ≤ p) × (p ≤ 256) ⌝ }
         ensures { λ r. ⌜ Like (workOf r) (set p v noLevels (workOf self)) × (r .choices ≡ choices) ⌝ }
     {

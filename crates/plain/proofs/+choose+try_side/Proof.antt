@@ -37,45 +37,25 @@ choose-lowest-undefined-requires t c κs = c .before .before .before .before .pr
 choose-enum-known-lowest : (t : ℕ) → choose-lts.Need-enum-known-lowest (choose-calls t) (choose-at t) choose.Post
 choose-enum-known-lowest t c = search needs
 
-choose-enum-told : (t : ℕ) → choose-lts.Need-enum-told (choose-calls t) (choose-at t) choose.Post
-choose-enum-told t c = search needs
-
-choose-tested-requires : (t : ℕ) → choose-lts.Need-tested-requires (choose-calls t) (choose-at t) choose.Post
-choose-tested-requires t c κs =
-    let R = c .before .before .before .before .before .before .before .before .pre .1 in
-    record { laid = R .laid; defined = lowest-none _ _ (none-left t (c .before)); room = R .room }
-
-choose-same-length : (t : ℕ) → choose-lts.Need-same-length (choose-calls t) (choose-at t) choose.Post
-choose-same-length t c = search needs
-
-choose-returns-2 : (t : ℕ) → choose-lts.Need-returns-2 (choose-calls t) (choose-at t) choose.Post
-choose-returns-2 t c =
-    let x = c .before .before in
-    let e = x .before .before in
-    let i = e .before .before .before .before .before in
-    let b = i .before .before in
-    let a = b .args in
-    tested-all (a .t .now) (a .tb) (a .limit) (a .t5) (i .if1 .left) (none-left t e) (b .pre .1 .few) (a .plan .now) _ (x .tested .result) (x .tested .ensures)
-
 choose-counted-requires-2 : (t : ℕ) → choose-lts.Need-counted-requires-2 (choose-calls t) (choose-at t) choose.Post
 choose-counted-requires-2 t c κs = search needs
 
-choose-returns-3 : (t : ℕ) → choose-lts.Need-returns-3 (choose-calls t) (choose-at t) choose.Post
-choose-returns-3 t c =
+choose-returns-2 : (t : ℕ) → choose-lts.Need-returns-2 (choose-calls t) (choose-at t) choose.Post
+choose-returns-2 t c =
     let k = c .before .before .before in
     let i = k .before .before .before .before .before in
     let b = i .before .before in
     let a = b .args in
     at-limit (a .t .now) (a .tb) (a .limit) (a .t5) (i .if1 .left) (k .lowest .given .0 .0) (chosen-atom t k) (c .before .if2 .taken) (b .pre .1 .few) (a .plan .now) (c .counted2 .result) (c .counted2 .ensures)
 
-choose-add-next : (t : ℕ) → choose-lts.Need-add-next (choose-calls t) (choose-at t) choose.Post
-choose-add-next t c =
+choose-add-on : (t : ℕ) → choose-lts.Need-add-on (choose-calls t) (choose-at t) choose.Post
+choose-add-on t c =
     let h = c .if2 .left in
     let f = c .before .before .before .before .before .before .before .before .before .fits .limit in
     omega (arith, h, f)
 
-choose-with-requires : (t : ℕ) → choose-lts.Need-with-requires (choose-calls t) (choose-at t) choose.Post
-choose-with-requires t c κs = aim t (c .before .before)
+choose-on-requires : (t : ℕ) → choose-lts.Need-on-requires (choose-calls t) (choose-at t) choose.Post
+choose-on-requires t c κs = aim t (c .before .before)
 
 choose-try-side-requires : (t : ℕ) → choose-lts.Need-try-side-requires (choose-calls t) (choose-at t) choose.Post
 choose-try-side-requires t c κs =
@@ -87,20 +67,20 @@ choose-try-side-requires t c κs =
     let R = b .pre .1 in
     let e = b .pre .0 in
     let h = w .before .if2 .left in
-    let n = w .with .ensures .1 in
-    let f = fewer (a .t .now) (a .tb) (a .limit) (a .t5) (i .if1 .left) (k .lowest .given .0 .0) (chosen-atom t k) true (w .with .result) (w .with .ensures .0) in (
+    let n = w .on .ensures .1 in
+    let f = fewer (a .t .now) (a .tb) (a .limit) (a .t5) (i .if1 .left) (k .lowest .given .0 .0) (chosen-atom t k) true (w .on .result) (w .on .ensures .0) in (
       omega (arith, e, f),
       (
         record { laid = R .laid; listed = R .listed; few = omega (arith, h, n); room = R .room },
-        calm-still (a .t .now) (a .tb) (a .limit) (a .t5) (i .if1 .left) (k .lowest .given .0 .0) (chosen-atom t k) true (w .with .result) (w .with .ensures .0),
+        calm-still (a .t .now) (a .tb) (a .limit) (a .t5) (i .if1 .left) (k .lowest .given .0 .0) (chosen-atom t k) true (w .on .result) (w .on .ensures .0),
       ),
     )
 
 choose-enum-known-first : (t : ℕ) → choose-lts.Need-enum-known-first (choose-calls t) (choose-at t) choose.Post
 choose-enum-known-first t c = search needs
 
-choose-with-requires-2 : (t : ℕ) → choose-lts.Need-with-requires-2 (choose-calls t) (choose-at t) choose.Post
-choose-with-requires-2 t c κs = aim t (c .before .before .before .before .before .before .before .before .before .before)
+choose-on-requires-2 : (t : ℕ) → choose-lts.Need-on-requires-2 (choose-calls t) (choose-at t) choose.Post
+choose-on-requires-2 t c κs = aim t (c .before .before .before .before .before .before .before .before .before .before)
 
 choose-try-side-requires-2 : (t : ℕ) → choose-lts.Need-try-side-requires-2 (choose-calls t) (choose-at t) choose.Post
 choose-try-side-requires-2 t c κs =
@@ -115,18 +95,21 @@ choose-try-side-requires-2 t c κs =
     let a = b .args in
     let R = b .pre .1 in
     let e = b .pre .0 in
-    let n = w .with2 .ensures .1 in
-    let f = fewer (a .t .now) (a .tb) (a .limit) (a .t5) (i .if1 .left) (k .lowest .given .0 .0) (chosen-atom t k) false (w .with2 .result) (w .with2 .ensures .0) in
-    let q = few-first (a .t .now) (a .tb) (a .limit) (a .t5) (i .if1 .left) (k .lowest .given .0 .0) (chosen-atom t k) (x .before .if2 .left) (x .with .result) (x .with .ensures .0) (x .with .ensures .1)
+    let n = w .on2 .ensures .1 in
+    let f = fewer (a .t .now) (a .tb) (a .limit) (a .t5) (i .if1 .left) (k .lowest .given .0 .0) (chosen-atom t k) false (w .on2 .result) (w .on2 .ensures .0) in
+    let q = few-first (a .t .now) (a .tb) (a .limit) (a .t5) (i .if1 .left) (k .lowest .given .0 .0) (chosen-atom t k) (x .before .if2 .left) (x .on .result) (x .on .ensures .0) (x .on .ensures .1)
     (a .plan .now) _ (y .try-side .result) (y .try-side .ensures) (g .0 .0) (g .1) in
-    let m = as-was (a .t .now) (a .tb) (a .limit) (a .t5) (i .if1 .left) (k .lowest .given .0 .0) (chosen-atom t k) (x .before .if2 .left) (x .with .result) (x .with .ensures .0) (x .with .ensures .1)
+    let m = as-was (a .t .now) (a .tb) (a .limit) (a .t5) (i .if1 .left) (k .lowest .given .0 .0) (chosen-atom t k) (x .before .if2 .left) (x .on .result) (x .on .ensures .0) (x .on .ensures .1)
     (a .plan .now) _ (y .try-side .result) (y .try-side .ensures) (g .0 .0) (g .1) in (
       omega (arith, e, f),
       (
         record { laid = R .laid; listed = R .listed; few = omega (arith, n, q); room = subst (λ (l : List ℕ). a .tb .atoms ≤ length l) (sym m) (R .room) },
-        calm-still (a .t .now) (a .tb) (a .limit) (a .t5) (i .if1 .left) (k .lowest .given .0 .0) (chosen-atom t k) false (w .with2 .result) (w .with2 .ensures .0),
+        calm-still (a .t .now) (a .tb) (a .limit) (a .t5) (i .if1 .left) (k .lowest .given .0 .0) (chosen-atom t k) false (w .on2 .result) (w .on2 .ensures .0),
       ),
     )
+
+choose-enum-told : (t : ℕ) → choose-lts.Need-enum-told (choose-calls t) (choose-at t) choose.Post
+choose-enum-told t c = search needs
 
 choose-enum-told-2 : (t : ℕ) → choose-lts.Need-enum-told-2 (choose-calls t) (choose-at t) choose.Post
 choose-enum-told-2 t c = search needs
@@ -134,14 +117,11 @@ choose-enum-told-2 t c = search needs
 choose-enum-told-3 : (t : ℕ) → choose-lts.Need-enum-told-3 (choose-calls t) (choose-at t) choose.Post
 choose-enum-told-3 t c = search needs
 
-choose-enum-told-4 : (t : ℕ) → choose-lts.Need-enum-told-4 (choose-calls t) (choose-at t) choose.Post
-choose-enum-told-4 t c = search needs
+choose-same-length : (t : ℕ) → choose-lts.Need-same-length (choose-calls t) (choose-at t) choose.Post
+choose-same-length t c = search needs
 
-choose-same-length-2 : (t : ℕ) → choose-lts.Need-same-length-2 (choose-calls t) (choose-at t) choose.Post
-choose-same-length-2 t c = search needs
-
-choose-returns-4 : (t : ℕ) → choose-lts.Need-returns-4 (choose-calls t) (choose-at t) choose.Post
-choose-returns-4 t c =
+choose-returns-3 : (t : ℕ) → choose-lts.Need-returns-3 (choose-calls t) (choose-at t) choose.Post
+choose-returns-3 t c =
     let s = c .before .before in
     let w = s .before .before in
     let d = w .before in
@@ -151,8 +131,22 @@ choose-returns-4 t c =
     let k = x .before .before .before in
     let i = k .before .before .before .before .before in
     let a = i .before .before .args in
-    other-side (a .t .now) (a .tb) (a .limit) (a .t5) (i .if1 .left) (k .lowest .given .0 .0) (chosen-atom t k) (x .before .if2 .left) (x .with .result) (x .with .ensures .0) (x .with .ensures .1)
-    (a .plan .now) _ (y .try-side .result) (y .try-side .ensures) (g .0 .0) (g .1) (w .with2 .result) (w .with2 .ensures .0) (w .with2 .ensures .1) _ (s .try-side2 .result) (s .try-side2 .ensures)
+    other-side (a .t .now) (a .tb) (a .limit) (a .t5) (i .if1 .left) (k .lowest .given .0 .0) (chosen-atom t k) (x .before .if2 .left) (x .on .result) (x .on .ensures .0) (x .on .ensures .1)
+    (a .plan .now) _ (y .try-side .result) (y .try-side .ensures) (g .0 .0) (g .1) (w .on2 .result) (w .on2 .ensures .0) (w .on2 .ensures .1) _ (s .try-side2 .result) (s .try-side2 .ensures)
+
+choose-same-length-2 : (t : ℕ) → choose-lts.Need-same-length-2 (choose-calls t) (choose-at t) choose.Post
+choose-same-length-2 t c = search needs
+
+choose-returns-4 : (t : ℕ) → choose-lts.Need-returns-4 (choose-calls t) (choose-at t) choose.Post
+choose-returns-4 t c =
+    let y = c .before .before .before .before in
+    let x = y .before .before in
+    let k = x .before .before .before in
+    let i = k .before .before .before .before .before in
+    let a = i .before .before .args in
+    let o = c .enum-told .given .1 in
+    first-ends (a .t .now) (a .tb) (a .limit) (a .t5) (i .if1 .left) (k .lowest .given .0 .0) (chosen-atom t k) (x .before .if2 .left) (x .on .result) (x .on .ensures .0) (x .on .ensures .1)
+    (a .plan .now) _ (y .try-side .result) (y .try-side .ensures) (λ e. (let h : _≡_ {A = ℕ} 0 1 = sym (ap kindOf o) ∙ e in omega arith))
 
 choose-same-length-3 : (t : ℕ) → choose-lts.Need-same-length-3 (choose-calls t) (choose-at t) choose.Post
 choose-same-length-3 t c = search needs
@@ -165,8 +159,8 @@ choose-returns-5 t c =
     let i = k .before .before .before .before .before in
     let a = i .before .before .args in
     let o = c .enum-told2 .given .1 in
-    first-ends (a .t .now) (a .tb) (a .limit) (a .t5) (i .if1 .left) (k .lowest .given .0 .0) (chosen-atom t k) (x .before .if2 .left) (x .with .result) (x .with .ensures .0) (x .with .ensures .1)
-    (a .plan .now) _ (y .try-side .result) (y .try-side .ensures) (λ e. (let h : _≡_ {A = ℕ} 0 1 = sym (ap kindOf o) ∙ e in omega arith))
+    first-ends (a .t .now) (a .tb) (a .limit) (a .t5) (i .if1 .left) (k .lowest .given .0 .0) (chosen-atom t k) (x .before .if2 .left) (x .on .result) (x .on .ensures .0) (x .on .ensures .1)
+    (a .plan .now) _ (y .try-side .result) (y .try-side .ensures) (λ e. (let h : _≡_ {A = ℕ} 2 1 = sym (ap kindOf o) ∙ e in omega arith))
 
 choose-same-length-4 : (t : ℕ) → choose-lts.Need-same-length-4 (choose-calls t) (choose-at t) choose.Post
 choose-same-length-4 t c = search needs
@@ -179,22 +173,29 @@ choose-returns-6 t c =
     let i = k .before .before .before .before .before in
     let a = i .before .before .args in
     let o = c .enum-told3 .given .1 in
-    first-ends (a .t .now) (a .tb) (a .limit) (a .t5) (i .if1 .left) (k .lowest .given .0 .0) (chosen-atom t k) (x .before .if2 .left) (x .with .result) (x .with .ensures .0) (x .with .ensures .1)
-    (a .plan .now) _ (y .try-side .result) (y .try-side .ensures) (λ e. (let h : _≡_ {A = ℕ} 2 1 = sym (ap kindOf o) ∙ e in omega arith))
+    first-ends (a .t .now) (a .tb) (a .limit) (a .t5) (i .if1 .left) (k .lowest .given .0 .0) (chosen-atom t k) (x .before .if2 .left) (x .on .result) (x .on .ensures .0) (x .on .ensures .1)
+    (a .plan .now) _ (y .try-side .result) (y .try-side .ensures) (λ e. (let h : _≡_ {A = ℕ} 3 1 = sym (ap kindOf o) ∙ e in omega arith))
+
+choose-enum-told-4 : (t : ℕ) → choose-lts.Need-enum-told-4 (choose-calls t) (choose-at t) choose.Post
+choose-enum-told-4 t c = search needs
+
+choose-tested-requires : (t : ℕ) → choose-lts.Need-tested-requires (choose-calls t) (choose-at t) choose.Post
+choose-tested-requires t c κs =
+    let e = c .before .before .before in
+    let R = e .before .before .before .before .before .before .before .pre .1 in
+    record { laid = R .laid; defined = lowest-none _ _ (none-left t e); room = R .room }
 
 choose-same-length-5 : (t : ℕ) → choose-lts.Need-same-length-5 (choose-calls t) (choose-at t) choose.Post
 choose-same-length-5 t c = search needs
 
 choose-returns-7 : (t : ℕ) → choose-lts.Need-returns-7 (choose-calls t) (choose-at t) choose.Post
 choose-returns-7 t c =
-    let y = c .before .before .before .before in
-    let x = y .before .before in
-    let k = x .before .before .before in
-    let i = k .before .before .before .before .before in
-    let a = i .before .before .args in
-    let o = c .enum-told4 .given .1 in
-    first-ends (a .t .now) (a .tb) (a .limit) (a .t5) (i .if1 .left) (k .lowest .given .0 .0) (chosen-atom t k) (x .before .if2 .left) (x .with .result) (x .with .ensures .0) (x .with .ensures .1)
-    (a .plan .now) _ (y .try-side .result) (y .try-side .ensures) (λ e. (let h : _≡_ {A = ℕ} 3 1 = sym (ap kindOf o) ∙ e in omega arith))
+    let x = c .before .before in
+    let e = x .before .before .before .before in
+    let i = e .before .before .before .before .before in
+    let b = i .before .before in
+    let a = b .args in
+    tested-all (a .t .now) (a .tb) (a .limit) (a .t5) (i .if1 .left) (none-left t e) (b .pre .1 .few) (a .plan .now) _ (x .tested .result) (x .tested .ensures)
 
 -- ---- `try_side`
 
@@ -238,27 +239,27 @@ pub +choose+try-side-spec : {M : Type 1} → statement M
     (choose-returns t)
     (choose-lowest-undefined-requires t)
     (choose-enum-known-lowest t)
-    (choose-enum-told t)
-    (choose-tested-requires t)
-    (choose-same-length t)
-    (choose-returns-2 t)
     (choose-counted-requires-2 t)
-    (choose-returns-3 t)
-    (choose-add-next t)
-    (choose-with-requires t)
+    (choose-returns-2 t)
+    (choose-add-on t)
+    (choose-on-requires t)
     (choose-try-side-requires t)
     (choose-enum-known-first t)
-    (choose-with-requires-2 t)
+    (choose-on-requires-2 t)
     (choose-try-side-requires-2 t)
+    (choose-enum-told t)
     (choose-enum-told-2 t)
     (choose-enum-told-3 t)
-    (choose-enum-told-4 t)
+    (choose-same-length t)
+    (choose-returns-3 t)
     (choose-same-length-2 t)
     (choose-returns-4 t)
     (choose-same-length-3 t)
     (choose-returns-5 t)
     (choose-same-length-4 t)
     (choose-returns-6 t)
+    (choose-enum-told-4 t)
+    (choose-tested-requires t)
     (choose-same-length-5 t)
     (choose-returns-7 t))
     λ t. try-side-lts.spec

@@ -12,6 +12,7 @@ use Rattle.judging.specs.declared.Buffer.the-variants.{Plan}
 use Rattle.judging.specs.Refusals.{Accepted}
 use Rattle.judging.specs.Judging.{Placed}
 use Rattle.judging.proofs.Judged.{plan-wide, judged-refused, judged-taken}
+use Rattle.heads.specs.Heads.{Listed}
 use Rattle.layout.proofs.Inside.{atoms-in}
 use Rattle.plain.specs.declared.passes.Side.{Side}
 use Rattle.plain.proofs.Sides.{tried}
@@ -19,8 +20,8 @@ use Rattle.plain.proofs.Entry.{plainly-refused, plainly-found}
 use Rattle.plain.proofs.solve.Statement.{statement}
 use Rattle.plain.proofs.solve.Tie as tie
 
-judge-requires : tie.Need-judge-requires
-judge-requires c κs = search needs
+judge-by-requires : tie.Need-judge-by-requires
+judge-by-requires c κs = search needs
 
 enum-known-fault : tie.Need-enum-known-fault
 enum-known-fault c = search needs
@@ -29,39 +30,37 @@ enum-told : tie.Need-enum-told
 enum-told c = search needs
 
 -- what was accepted
-taken : (c : tie.After-tb) → let j = c .before .before .before in let a = j .before .before .args in
-    (d : Contents) × Accepted (a .words .now) (Plan (length (a .plan .now))) d × Placed (a .words .now) (j .judge .result .table) d
+taken : (c : tie.After-tb) → let j = c .before .before .before in let a = j .before .before .before .args in
+    (d : Contents) × Accepted (a .words .now) (Plan (length (a .plan .now))) d × Placed (a .words .now) (j .judge-by .result .table) d
 taken c =
     let j = c .before .before .before in
-    let a = j .before .before .args in
-    judged-taken (a .words .now) (Plan (length (a .plan .now))) (j .judge .result) (j .judge .ensures) (c .before .enum-told .given .1)
+    let a = j .before .before .before .args in
+    judged-taken (a .words .now) (Plan (length (a .plan .now))) (j .judge-by .result) (j .judge-by .ensures .0) (c .before .enum-told .given .1)
 
-slice-aggregate-fill : tie.Need-slice-aggregate-fill
-slice-aggregate-fill c = search needs
-
-fill-requires : tie.Need-fill-requires
-fill-requires c κs = (taken (c .before) .2 .laid, search needs)
+-- its rules by head
+listed : (c : tie.After-tb) → let j = c .before .before .before in Listed (j .before .before .before .args .words .now) (j .judge-by .result .table) (j .judge-by .last .1 .1 .0)
+listed c = c .before .before .before .judge-by .ensures .1 (c .before .enum-told .given .1)
 
 propagate-requires : tie.Need-propagate-requires
-propagate-requires c κs = let l = c .before .before in (taken (l .before .before) .2 .laid, l .fill .ensures, refl)
+propagate-requires c κs = (taken (c .before) .2 .laid, listed (c .before), refl)
 
 choose-requires : tie.Need-choose-requires
 choose-requires c κs =
     let g = c .before .before in
-    let l = g .before .before .before in
-    let x = taken (l .before .before) in
+    let b = g .before .before in
+    let x = taken b in
     let f = x .2 .laid .fewAtoms in
     let w = plan-wide _ (x .1 .buffer) in
     let n = g .propagate .ensures .kept in
-    record { laid = x .2 .laid; listed = l .fill .ensures; few = omega (arith, n); room = omega (arith, f, w) }
+    record { laid = x .2 .laid; listed = listed b; few = omega (arith, n); room = omega (arith, f, w) }
 
 returns : tie.Need-returns
 returns c =
     let f = c .before .fault .given in
     let j = c .before .before .before in
-    let a = j .before .before .args in
+    let a = j .before .before .before .args in
     plainly-refused (a .words .now) (a .ask) (a .plan .now) (a .plan .now) (solved.Refused (f .0 .0)) (f .0 .0)
-    (judged-refused (a .words .now) (Plan (length (a .plan .now))) (j .judge .result) (f .0 .0) (j .judge .ensures) (f .1)) refl refl
+    (judged-refused (a .words .now) (Plan (length (a .plan .now))) (j .judge-by .result) (f .0 .0) (j .judge-by .ensures .0) (f .1)) refl refl
 
 same-length : tie.Need-same-length
 same-length c = search needs
@@ -74,13 +73,13 @@ returns-2 : tie.Need-returns-2
 returns-2 c =
     let r = c .before .before in
     let g = r .before .before .before in
-    let b = g .before .before .before .before .before in
+    let b = g .before .before in
     let j = b .before .before .before in
-    let a = j .before .before .args in
-    let tb = j .judge .result .table in
+    let a = j .before .before .before .args in
+    let tb = j .judge-by .result .table in
     let x = taken b in
     plainly-found (a .words .now) (a .ask) (a .plan .now) _ (r .choose .result) (x .0) (x .1) tb (x .2) start refl refl
     (tried (a .words .now) tb (a .ask .limit) start (g .propagate .result) refl (g .propagate .ensures) (atoms-in (a .words .now) tb (x .2 .laid)) (a .plan .now) _ (r .choose .result) (r .choose .ensures))
 
 pub solve-spec : {M : Type 1} → statement M
-solve-spec = tie.close (tie.spec judge-requires enum-known-fault enum-told slice-aggregate-fill fill-requires propagate-requires choose-requires returns same-length returns-2)
+solve-spec = tie.close (tie.spec judge-by-requires enum-known-fault enum-told propagate-requires choose-requires returns same-length returns-2)

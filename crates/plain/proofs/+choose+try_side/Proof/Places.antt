@@ -19,7 +19,7 @@ use Rattle.plain.proofs.try_side.Reads as try-side
 use Rattle.plain.proofs.try_side.Kinds as try-side-kinds
 use Rattle.plain.proofs.+choose+try_side.Lts-try_side as try-side-lts
 use Rattle.plain.proofs.counted.Reads as counted-reads
-use Rattle.plain.proofs.passes.Side.with.Reads as with-reads
+use Rattle.plain.proofs.passes.Side.on.Reads as on-reads
 use Rattle.plain.proofs.passes.propagate.Reads as propagate-reads
 use Rattle.plain.proofs.tested.Reads as tested-reads
 use Rattle.turns.proofs.lowest_undefined.Reads as lowest-undefined-reads
@@ -49,12 +49,12 @@ choose-calls t = (
   counted-reads.Learnt,
   lowest-undefined-reads.Asked,
   lowest-undefined-reads.Learnt,
-  tested-reads.Asked,
-  tested-reads.Learnt,
-  with-reads.Asked,
-  with-reads.Learnt,
+  on-reads.Asked,
+  on-reads.Learnt,
   try-side-below t,
   try-side.Post,
+  tested-reads.Asked,
+  tested-reads.Learnt,
 )
 
 abbrev pub try-side-calls : ℕ → try-side-lts.Claims
@@ -63,9 +63,9 @@ try-side-calls t = (propagate-reads.Asked, propagate-reads.Learnt, choose-below 
 -- ---- the places of `choose`
 
 -- no atom is undefined
-pub none-left : (t : ℕ) (c : choose-lts.After-enum-told (choose-calls t) (choose-at t) choose.Post)
+pub none-left : (t : ℕ) (c : choose-lts.After-enum-told4 (choose-calls t) (choose-at t) choose.Post)
     → let a = c .before .before .before .before .before .before .before .args in lowest (valued (a .t5 .values)) (a .tb .atoms) ≡ none
-none-left t c = sym (c .before .before .lowest-undefined .ensures) ∙ ap found (c .enum-told .given .1)
+none-left t c = sym (c .before .before .lowest-undefined .ensures) ∙ ap found (c .enum-told4 .given .1)
 
 -- the atom that is chosen
 pub chosen-atom : (t : ℕ) (c : choose-lts.After-lowest (choose-calls t) (choose-at t) choose.Post)
