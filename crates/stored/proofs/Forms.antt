@@ -67,14 +67,14 @@ abbrev isWhole : Number → Bool
 isWhole cut = false
 isWhole (whole n bs) = true
 
-cut≢whole {ℓ} : {X : Type ℓ} {n : ℕ} {bs : List ℕ} → cut ≡ whole n bs → X
+pub cut≢whole {ℓ} : {X : Type ℓ} {n : ℕ} {bs : List ℕ} → cut ≡ whole n bs → X
 cut≢whole e = absurd (subst T (ap isWhole (sym e)) tt)
 
 abbrev valueIn : Number → ℕ
 valueIn cut = 0
 valueIn (whole n bs) = n
 
-abbrev restIn : Number → List ℕ
+abbrev pub restIn : Number → List ℕ
 restIn cut = []
 restIn (whole n bs) = bs
 

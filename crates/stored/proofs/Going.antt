@@ -33,7 +33,7 @@ use Rattle.stored.proofs.Exact.{table-is, first-word}
 
 -- ---- a word by its size and sign
 
-signed-back : (w : ℤ) → signed (not (nonNeg w)) (natAbs w) ≡ w
+pub signed-back : (w : ℤ) → signed (not (nonNeg w)) (natAbs w) ≡ w
 signed-back (pos n) = refl
 signed-back (negsuc n) = refl
 

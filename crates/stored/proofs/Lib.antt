@@ -7,4 +7,9 @@ pub mod NameLaws
 pub mod Exact
 pub mod Going
 pub mod Storing
+pub mod Telling
+pub mod NamesTold
+pub mod Scanning
+pub mod Restored
 pub mod Unique
+pub mod Trips

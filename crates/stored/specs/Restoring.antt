@@ -1,4 +1,4 @@
--- What `restore` is to promise (02, Wish 12). Definitions only; its code has not landed, and no public contract reaches them yet.
+-- What `restore` promises (02, Wish 12). Definitions only: to be believed.
 --   RestoreRefused    "before all a word buffer too short 25"; the bytes' own faults; "1 after 3", 8 and 9 of the words; "24 going back while some name isn't empty,
 --                     after all faults of the table itself"
 --   Encodes           the bytes are the stored form of contents within 01's ranges, with names of at most 32 bytes
