@@ -1,7 +1,7 @@
 -- In each mode a table is refused with one number and place, or accepted with one contents, and never both. Assumes nothing.
 use mathlib.Core.Path.{_≡_, refl, sym, _∙_, ap, subst}
 use mathlib.Core.Logic.{_⊎_, inl, inr}
-use mathlib.Core.Bool.{Bool}
+use mathlib.Core.Bool.{Bool, false}
 use mathlib.Core.Option.{Option, none, some}
 use mathlib.Core.List.{List, [], _∷_, List·Memᴰ·head, List·Memᴰ·tail}
 use Prim.Native.Nat.{ℕ, zero, suc, _-_, _≤_, _<_}
@@ -10,7 +10,7 @@ use lib.IntN.{ℤ}
 use lib.ListN.{length, getD}
 use Rattle.meaning.specs.Lists.{_∈_}
 use Rattle.meaning.specs.Program.{Rule, Program}
-use Rattle.meaning.specs.Dependency.{AggregateCycle, Free}
+use Rattle.meaning.specs.Dependency.{HeadCycle, AggregateCycle, Free}
 use Rattle.meaning.proofs.Cond.{ltCase, some-inj}
 use Rattle.results.specs.declared.Refusal.{Refusal}
 use Rattle.results.specs.Results.{numberOf, placeOf}
@@ -55,6 +55,10 @@ pub lowest-not-free : (Cycle : Program → Rule → Type 0) (P : Program) (k : �
 lowest-not-free Cycle P k l free = let a = l .from in let b = l .upto in free (ruleOf P k) (rule-in P (k - 1) (omega arith)) (l .here)
 
 module _ (t : List ℤ) (b : Buffer) where
+  -- in 01's mode what is accepted has no head cycle
+  pub heads-free : {cycles : Bool} (c : Contents) → AcceptedBy cycles t b c → cycles ≡ false → Free HeadCycle (program c)
+  heads-free c a e = subst (λ (m : Bool). Free (HeadCycleBy m) (program c)) e (a .noHead)
+
   pub accepted-unique : {cycles : Bool} (c d : Contents) → AcceptedBy cycles t b c → AcceptedBy cycles t b d → c ≡ d
   accepted-unique c d a h = same-contents (a .holds) (h .holds)
 
