@@ -7,3 +7,4 @@ pub mod Turned
 pub mod Lacking
 pub mod Ordered
 pub mod Turns
+pub mod Standing

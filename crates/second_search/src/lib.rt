@@ -14,6 +14,7 @@ ghost use Rattle.search.specs.Search.{openedAs, jumpedAs};
 ghost use Rattle.search.specs.Engine.{noReasons};
 ghost use Rattle.rules.specs.Demand.{demandOf};
 ghost use Rattle.smaller.specs.Smaller.{lacksOne, smallerTest};
+ghost use Rattle.smaller.specs.Cyclic.{hasSmaller};
 ghost use Rattle.second_search.specs.Looking.{Made, askedOf, startOf, turnOf, testedOf};
 use interpretation::Choice;
 use interpretation::Interpretation;
@@ -242,6 +243,34 @@ pub fn look(t: &[i32], tb: Table, candidate: &[u8; 256], left: u32) -> Tested
             Turn::Back => {
                 if it.depth == 0 {
                     return Tested::Passed(choices);
+                }
+                it = flipped(it);
+            }
+        }
+    }
+}
+
+// Whether a candidate has a smaller model: "The check makes the test with no limit". The same search; it counts nothing.
+pub fn has_smaller(t: &[i32], tb: Table, candidate: &[u8; 256]) -> bool
+    requires { ⌜ Laid (now t) tb × AllDefined (tb .atoms) (valued (now candidate)) ⌝ }
+    ensures { λ r. ⌜ r ≡ hasSmaller (programOf (now (t .entry)) tb) (tb .atoms) (trueAtoms (tb .atoms) (valued (now (candidate .entry)))) ⌝ }
+{
+    let n = tb.atoms;
+    let mut it = start(candidate, n);
+    loop {
+        let made = propagate(t, tb, candidate, it);
+        let now = made.it;
+        it = now;
+        let turn = decide(candidate, n, made.conflict, it, 0, 1); // one more choice is always allowed
+        match turn {
+            Turn::Smaller => return true,
+            Turn::Limit => return false,
+            Turn::Choose(p) => {
+                it = opened(it, p);
+            }
+            Turn::Back => {
+                if it.depth == 0 {
+                    return false;
                 }
                 it = flipped(it);
             }
