@@ -44,7 +44,7 @@ pub extern "C" fn saucepebbly_approve(
 ) -> u32
     ensures { λ k. ⌜ Approves (now (words .entry)) (now (plan .entry)) (now (report .entry)) (now (report .exit)) k ⌝ }
 {
-    let checked = solver::approve_with(words, plan, lists, candidates);
+    let checked = solver::approve_with(words, false, plan, lists, candidates);
     match checked {
         Checked::Yes => 0,
         Checked::No => 1,

@@ -79,7 +79,7 @@ fn set_plan(plan: &mut [u8], atoms: usize, code: u64) {
 }
 
 fn is_approved(table: &[i32], plan: &[u8]) -> bool {
-    match solver::approve(table, plan) {
+    match solver::approve(table, false, plan) {
         Checked::Yes => true,
         Checked::No => false,
         Checked::Refused(_) => false,
@@ -121,7 +121,7 @@ fn print_plans(is_accepted: bool, table: &[i32], plan: &mut [u8]) {
 
 // A case's line.
 fn print_line(table: &[i32], plan: &mut [u8]) {
-    let checked = solver::approve(table, plan);
+    let checked = solver::approve(table, false, plan);
     let ask = Ask {
         cycles: false,
         limit: 4294967295,

@@ -28,12 +28,12 @@ use Rattle.search.specs.Search.{Result, answer, noAnswer, limit}
 use Rattle.table.specs.Contents.{Contents, program}
 use Rattle.judging.specs.declared.Buffer.{Buffer}
 use Rattle.judging.specs.declared.Buffer.the-variants.{Plan}
-use Rattle.judging.specs.Refusals.{Accepted, Refused}
+use Rattle.judging.specs.Refusals.{AcceptedBy, Accepted}
 use Rattle.judging.proofs.Refusals.{accepted-unique}
 use Rattle.promises.specs.Plans.{bitOf, bytesFrom, planWith, planAtoms}
 use Rattle.promises.specs.Promises.{planAfter, Meaning}
-use Rattle.solver.specs.Explaining.{Explaining}
-use Rattle.solver.specs.Plans.{whysFor}
+use Rattle.solver.specs.Explaining.{Explaining, ExplainingBy}
+use Rattle.solver.specs.Plans.{whysFor, whysBy}
 use Rattle.solver.proofs.Bytes.{plan-long}
 
 -- ---- the atoms of the plan that was written
@@ -98,3 +98,15 @@ module _ (t : List ℤ) (lim : ℕ) (old new : List ℕ) (c : Contents) (a : Acc
   explaining-accepted (solved.Nothing k) m w = record { answers = λ d b e. absurd (omega arith); others = λ n. w }
   explaining-accepted (solved.Limit k) m w = record { answers = λ d b e. absurd (omega arith); others = λ n. w }
   explaining-accepted (solved.Refused f) m w = record { answers = λ d b e. absurd (omega arith); others = λ n. w }
+
+-- ---- by the mode: where head cycles are taken there are no rounds
+
+pub explains-refused : (cycles : Bool) (t : List ℤ) (b : Buffer) (plan : List ℕ) (f : Refusal) (ws : List Why) → Recorded ws noWhys → ExplainingBy cycles t b plan (solved.Refused f) ws
+explains-refused false t b plan f ws r = explaining-refused t b plan f ws r
+explains-refused true t b plan f ws r = r
+
+pub explains-accepted : (cycles : Bool) (t : List ℤ) (lim : ℕ) (old new : List ℕ) (c : Contents) → AcceptedBy cycles t (Plan (length old)) c → AtomsIn (c .atoms) (program c)
+    → (AS : Atoms → Type 0) → ((Y : Atoms) → AS Y → AnswerSet (program c) Y) → (ws : List Why) (r : Solved) → Meaning (c .atoms) AS lim old new r
+    → Recorded ws (whysBy cycles r (whyOf (program c) (c .atoms) (planAtoms (c .atoms) new))) → ExplainingBy cycles t (Plan (length old)) new r ws
+explains-accepted false t lim old new c a A AS answers ws r m w = explaining-accepted t lim old new c a A AS answers ws r m w
+explains-accepted true t lim old new c a A AS answers ws r m w = w

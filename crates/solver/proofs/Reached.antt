@@ -1,4 +1,4 @@
--- Of the states that the search of an accepted table really reaches: a conflict's reason names only present levels, so that the level to which the search jumps is the
+-- Of the states that the search of an accepted table really reaches, in either mode: a conflict's reason names only present levels, so that the level to which the search jumps is the
 -- highest in the reason (01: "m, the highest in C"), and it is 0 exactly where the reason is empty; and the passes always end by themselves ("Passes repeat until one
 -- changes nothing or a conflict ends it"): the fuel of their definition is never spent. Assumes nothing.
 use mathlib.Core.Path.{_≡_, refl, sym, _∙_, ap, subst}
@@ -16,15 +16,16 @@ use Rattle.steps.specs.Steps.{conflict, passes, begin, Stopped}
 use Rattle.steps.proofs.Ending.{passes-end}
 use Rattle.search.specs.Search.{Problem, Mode, jump, State, go, turn, start}
 use Rattle.search.specs.Laws.{Laws, Within}
-use Rattle.search.specs.Base.{base}
-use Rattle.search.proofs.Base.{laws}
+use Rattle.smaller.specs.Cyclic.{baseBy}
+use Rattle.smaller.proofs.Modes.{mode-base-laws}
 use Rattle.search.proofs.Limit.{LeadsTo, here, on}
 use Rattle.search.proofs.Parts.{target-max}
 use Rattle.search.proofs.Sound.{StateInv, GoodNext, turn-good, start-good}
 use Rattle.table.specs.Contents.{Contents, program}
 use Rattle.table.proofs.Accepted.{accepted-atoms}
 use Rattle.judging.specs.declared.Buffer.{Buffer}
-use Rattle.judging.specs.Refusals.{Accepted}
+use Rattle.judging.specs.Refusals.{AcceptedBy}
+use Rattle.judging.proofs.Refusals.{heads-free}
 
 -- a highest level that is not 0 is in the set
 highest-in : (C : Levels) (k : ℕ) → 1 ≤ highest C k → C (highest C k) ≡ true
@@ -40,15 +41,15 @@ highest-in C (suc k) h = at (C (suc k)) refl (highest-in C k)
         let u : highest C (suc k) ≡ highest C k = highest-on C (suc k) (omega arith) i ∙ ap (highest C) e in
         ap C u ∙ ih (omega arith)
 
-module _ (t : List ℤ) (b : Buffer) (c : Contents) (h : Accepted t b c) where
+module _ (cycles : Bool) (t : List ℤ) (b : Buffer) (c : Contents) (h : AcceptedBy cycles t b c) where
   abbrev Q : Problem
-  Q = base (program c) (c .atoms)
+  Q = baseBy cycles (program c) (c .atoms)
 
   inside : AtomsIn (c .atoms) (program c)
   inside = accepted-atoms t c (h .holds)
 
   L : Laws (AnswerSet (program c)) Q
-  L = laws (c .atoms) (program c) inside (h .noHead) (h .noAggregate)
+  L = mode-base-laws cycles (c .atoms) (program c) inside (heads-free t b c h) (h .noAggregate)
 
   module _ (mode : Mode) (lim : ℕ) where
     abbrev Kept : State → Type 0

@@ -16,9 +16,9 @@ use Rattle.valuing.proofs.Exact as exact
 use Rattle.table.specs.Contents.{Contents, program}
 use Rattle.table.proofs.Members.{accepted-distinct}
 use Rattle.judging.specs.declared.Buffer.{Buffer}
-use Rattle.judging.specs.Refusals.{Accepted}
+use Rattle.judging.specs.Refusals.{AcceptedBy}
 
-module _ (t : List ℤ) (b : Buffer) (c : Contents) (h : Accepted t b c) (r : Rule) (m : r ∈ program c) (l : Literal) (n : l ∈ r .aggs) (a : ℕ → Cell) where
+module _ (cycles : Bool) (t : List ℤ) (b : Buffer) (c : Contents) (h : AcceptedBy cycles t b c) (r : Rule) (m : r ∈ program c) (l : Literal) (n : l ∈ r .aggs) (a : ℕ → Cell) where
   pub true-exactly : (literalValue a l ≡ True) ↔ Always a l true
   true-exactly = exact.exact-true a l (accepted-distinct t c (h .holds) r m l n)
 

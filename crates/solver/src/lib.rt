@@ -4,15 +4,16 @@ ghost use mathlib.Core.Path.{_≡_};
 ghost use Prim.Native.Nat.{_≤_};
 ghost use lib.ListN.{length};
 ghost use Rattle.meaning.specs.Answers.{model};
-ghost use Rattle.meaning.specs.Foundedness.{founded};
+ghost use Rattle.interpretation.specs.State.{trueAtoms, AllDefined};
+ghost use Rattle.interpretation.specs.View.{valued};
 ghost use Rattle.layout.specs.Layout.{Laid, programOf};
 ghost use Rattle.judging.specs.declared.Buffer.the-variants.{Plan};
 ghost use Rattle.rounds.specs.Rounds.{whyOf, Recorded};
 ghost use Rattle.solver.specs.Solving.{Solving};
 ghost use Rattle.promises.specs.Plans.{planAtoms};
-ghost use Rattle.solver.specs.Explaining.{Explaining};
-ghost use Rattle.solver.specs.Approving.{Approving};
-ghost use Rattle.solver.specs.Plans.{badFrom, checkedBy, isAnswer, whysFor};
+ghost use Rattle.solver.specs.Explaining.{ExplainingBy};
+ghost use Rattle.solver.specs.Approving.{ApprovingBy};
+ghost use Rattle.solver.specs.Plans.{badFrom, passesBy, checkedBy, isAnswer, whysFor, whysBy};
 use foundation::Candidates;
 use heads::Lists;
 use judging::Buffer;
@@ -44,10 +45,11 @@ pub fn solve_with(
     candidates: &mut Candidates,
 ) -> Solution
     ensures { λ r. ⌜ Solving (now (words .entry)) ask (now (plan .entry)) (now (plan .exit)) (r .solved)
-        × Explaining (now (words .entry)) (Plan (length (now (plan .entry)))) (now (plan .exit)) (r .solved) (r .whys) ⌝ }
+        × ExplainingBy (ask .cycles) (now (words .entry)) (Plan (length (now (plan .entry)))) (now (plan .exit)) (r .solved) (r .whys) ⌝ }
 {
+    let cycles = ask.cycles;
     let room = plan.len();
-    let judged = judging::judge_by(words, Buffer::Plan(room), lists);
+    let judged = judging::judge_in(words, cycles, Buffer::Plan(room), lists);
     let fault = judged.fault;
     match fault {
         Fault::Refused(f) => {
@@ -58,10 +60,10 @@ pub fn solve_with(
         Fault::Nothing => {
             let tb = judged.table;
             let limit = ask.limit;
-            let found = jumping::search(words, tb, false, lists, limit, candidates);
+            let found = jumping::search(words, tb, cycles, lists, limit, candidates);
             let atoms = tb.atoms;
             let solved = plans::report(found, atoms, plan);
-            let whys = whys_for(words, tb, solved, plan);
+            let whys = whys_by(words, tb, cycles, solved, plan);
             Solution { solved, whys }
         }
     }
@@ -70,7 +72,7 @@ pub fn solve_with(
 // The same with memory of its own.
 pub fn solve(words: &[i32], ask: Ask, plan: &mut [u8]) -> Solution
     ensures { λ r. ⌜ Solving (now (words .entry)) ask (now (plan .entry)) (now (plan .exit)) (r .solved)
-        × Explaining (now (words .entry)) (Plan (length (now (plan .entry)))) (now (plan .exit)) (r .solved) (r .whys) ⌝ }
+        × ExplainingBy (ask .cycles) (now (words .entry)) (Plan (length (now (plan .entry)))) (now (plan .exit)) (r .solved) (r .whys) ⌝ }
 {
     let mut lists = [0u16; heads::SIZE];
     let mut candidates = [0u32; Table::RULES];
@@ -101,41 +103,76 @@ pub fn whys_for(words: &[i32], tb: Table, solved: Solved, plan: &[u8]) -> [Why; 
     explaining::explain(words, tb, &values)
 }
 
-// Whether an offered plan is an answer set of the table, or a refusal. It makes no search and never writes to the plan. Its memory is lent, as that of
+// The same by the mode: where the call takes head cycles all are 0.
+pub fn whys_by(words: &[i32], tb: Table, cycles: bool, solved: Solved, plan: &[u8]) -> [Why; 256]
+    requires { ⌜ Laid (now words) tb × (256 ≤ length (now plan)) ⌝ }
+    ensures { λ r. ⌜ Recorded r (whysBy cycles solved (whyOf (programOf (now (words .entry)) tb) (tb .atoms) (planAtoms (tb .atoms) (now (plan .entry))))) ⌝ }
+{
+    if cycles {
+        return explaining::nothing();
+    }
+    whys_for(words, tb, solved, plan)
+}
+
+// Whether an offered plan is an answer set of the table, or a refusal; with or without head cycles. It never writes to the plan. Its memory is lent, as that of
 // `solve_with`.
 pub fn approve_with(
     words: &[i32],
+    cycles: bool,
     plan: &[u8],
     lists: &mut Lists,
     candidates: &mut Candidates,
 ) -> Checked
-    ensures { λ r. ⌜ Approving (now (words .entry)) (now (plan .entry)) r ⌝ }
+    ensures { λ r. ⌜ ApprovingBy cycles (now (words .entry)) (now (plan .entry)) r ⌝ }
 {
     let room = plan.len();
-    let judged = judging::judge_by(words, Buffer::Plan(room), lists);
+    let judged = judging::judge_in(words, cycles, Buffer::Plan(room), lists);
     let fault = judged.fault;
     match fault {
         Fault::Refused(f) => Checked::Refused(f),
         Fault::Nothing => {
             let tb = judged.table;
-            check(words, tb, plan, candidates)
+            check(words, tb, cycles, plan, candidates)
         }
     }
 }
 
 // The same with memory of its own.
-pub fn approve(words: &[i32], plan: &[u8]) -> Checked
-    ensures { λ r. ⌜ Approving (now (words .entry)) (now (plan .entry)) r ⌝ }
+pub fn approve(words: &[i32], cycles: bool, plan: &[u8]) -> Checked
+    ensures { λ r. ⌜ ApprovingBy cycles (now (words .entry)) (now (plan .entry)) r ⌝ }
 {
     let mut lists = [0u16; heads::SIZE];
     let mut candidates = [0u32; Table::RULES];
-    approve_with(words, plan, &mut lists, &mut candidates)
+    approve_with(words, cycles, plan, &mut lists, &mut candidates)
 }
 
-// The check of a plan offered for an accepted table: its bytes, then whether it is a model, then whether it is founded.
-fn check(words: &[i32], tb: Table, plan: &[u8], candidates: &mut Candidates) -> Checked
+// The test of an offered model: whether it is founded, or, where the call takes head cycles, whether it has no smaller model.
+fn passes(
+    words: &[i32],
+    tb: Table,
+    cycles: bool,
+    values: &[u8; 256],
+    candidates: &mut Candidates,
+) -> bool
+    requires { ⌜ Laid (now words) tb × AllDefined (tb .atoms) (valued (now values)) ⌝ }
+    ensures { λ r. ⌜ r ≡ passesBy cycles (programOf (now (words .entry)) tb) (tb .atoms) (trueAtoms (tb .atoms) (valued (now (values .entry)))) ⌝ }
+{
+    if cycles {
+        return !second_search::has_smaller(words, tb, values);
+    }
+    foundation::founded_by(words, tb, values, candidates)
+}
+
+// The check of a plan offered for an accepted table: its bytes, then whether it is a model, then that test.
+fn check(
+    words: &[i32],
+    tb: Table,
+    cycles: bool,
+    plan: &[u8],
+    candidates: &mut Candidates,
+) -> Checked
     requires { ⌜ Laid (now words) tb × (256 ≤ length (now plan)) ⌝ }
-    ensures { λ r. ⌜ r ≡ checkedBy (badFrom (now (plan .entry)) 0 (tb .atoms)) (model (programOf (now (words .entry)) tb) (planAtoms (tb .atoms) (now (plan .entry)))) (founded (programOf (now (words .entry)) tb) (tb .atoms) (planAtoms (tb .atoms) (now (plan .entry)))) ⌝ }
+    ensures { λ r. ⌜ r ≡ checkedBy (badFrom (now (plan .entry)) 0 (tb .atoms)) (model (programOf (now (words .entry)) tb) (planAtoms (tb .atoms) (now (plan .entry)))) (passesBy cycles (programOf (now (words .entry)) tb) (tb .atoms) (planAtoms (tb .atoms) (now (plan .entry)))) ⌝ }
 {
     let n = tb.atoms;
     let offer = plans::first_bad(plan, n);
@@ -144,7 +181,7 @@ fn check(words: &[i32], tb: Table, plan: &[u8], candidates: &mut Candidates) -> 
         Offer::Good => {
             let values = plans::values_of(plan, n);
             if foundation::is_model(words, tb, &values) {
-                if foundation::founded_by(words, tb, &values, candidates) {
+                if passes(words, tb, cycles, &values, candidates) {
                     return Checked::Yes;
                 }
             }

@@ -1,0 +1,31 @@
+-- `solver::whys_by` meets its contract. Assumes nothing.
+use borrow.Author.Needs.{needs}
+use mathlib.Core.Path.{_≡_, sym, ap, subst}
+use mathlib.Core.Bool.{Bool}
+use Prim.Native.Nat.{ℕ}
+use Rattle.layout.specs.Layout.{programOf}
+use Rattle.rounds.specs.declared.Why.{Why}
+use Rattle.rounds.specs.Rounds.{whyOf, Recorded}
+use Rattle.promises.specs.Plans.{planAtoms}
+use Rattle.solver.specs.Plans.{whysBy}
+use Rattle.solver.proofs.whys_by.Statement.{statement}
+use Rattle.solver.proofs.whys_by.Tie as tie
+
+-- the rounds and rules by the mode
+abbrev by : tie.Start → Bool → ℕ → Why
+by s cycles = let a = s .args in whysBy cycles (a .solved) (whyOf (programOf (a .words .now) (a .tb)) (a .tb .atoms) (planAtoms (a .tb .atoms) (a .plan .now)))
+
+nothing-requires : tie.Need-nothing-requires
+nothing-requires c κs = search needs
+
+returns : tie.Need-returns
+returns c = subst (Recorded (c .nothing .result)) (ap (by (c .before .before .before)) (sym (c .before .if1 .taken))) (c .nothing .ensures)
+
+whys-for-requires : tie.Need-whys-for-requires
+whys-for-requires c κs = search needs
+
+returns-2 : tie.Need-returns-2
+returns-2 c = subst (Recorded (c .whys-for .result)) (ap (by (c .before .before .before)) (sym (c .before .if1 .left))) (c .whys-for .ensures)
+
+pub whys-by-spec : {M : Type 1} → statement M
+whys-by-spec = tie.close (tie.spec nothing-requires returns whys-for-requires returns-2)
