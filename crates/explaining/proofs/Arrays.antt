@@ -1,4 +1,4 @@
--- The two arrays of marks, and the array of records, read as rounds and rules of atoms.
+-- The two arrays of marks, read as rounds and rules of atoms.
 -- Assumes nothing.
 use Prim.Native.Nat.{ℕ, zero, suc, _+_, _-_, _%_, _≤_, _<_}
 use native.Mathlib.Omega.{arith}
@@ -18,7 +18,7 @@ use Rattle.meaning.proofs.Tools.{eq-i, neq-i}
 use Rattle.meaning.proofs.Cond.{ifEq-yes, ifEq-no, eqCase, ltCase}
 use Rattle.foundation.specs.Walk.{atomOf, positives}
 use Rattle.rounds.specs.declared.Why.{Why}
-use Rattle.rounds.specs.Rounds.{noWhy, whysIn, Recorded}
+use Rattle.rounds.specs.Rounds.{noWhy}
 use Rattle.rounds.specs.Marks.{earlier}
 use Rattle.explaining.specs.Walk.{whysBy, roundsBy, due}
 
@@ -105,41 +105,3 @@ whys-none n m = fun-ext at
     at : (p : ℕ) → whysBy (replicate n 0) (replicate m 0) p ≡ noWhy
     at zero = whys-zero (replicate n 0) (replicate m 0)
     at (suc i) = whys-suc (replicate n 0) (replicate m 0) i ∙ (λ x. record { round = blank n i x; rule = blank m i x })
-
--- ---- the array of records
-
--- what two arrays say at index i
-abbrev pub whyAt : List ℕ → List ℕ → ℕ → Why
-whyAt rs ns i = record { round = getD rs i 0; rule = getD ns i 0 }
-
--- the records below index i are those of the two arrays
-abbrev pub Paired : List ℕ → List ℕ → List Why → ℕ → Type 0
-Paired rs ns ws i = (j : ℕ) → j < i → getD ws j noWhy ≡ whyAt rs ns j
-
-pub paired-on : (rs ns : List ℕ) (ws : List Why) (i : ℕ) → i < length ws → Paired rs ns ws i → Paired rs ns (set ws i (whyAt rs ns i)) (i + 1)
-paired-on rs ns ws i h p j l = at (eqCase j i)
-  where
-    at : (j ≡ i) ⊎ (j ≢ i) → getD (set ws i (whyAt rs ns i)) j noWhy ≡ whyAt rs ns j
-    at (inl e) =
-        ap (λ (k : ℕ). getD (set ws i (whyAt rs ns i)) k noWhy) e
-        ∙ getD-set-same ws i (whyAt rs ns i) noWhy h
-        ∙ sym (ap (whyAt rs ns) e)
-    at (inr n) = getD-set-other ws i j (whyAt rs ns i) noWhy n ∙ p j (omega (arith, n))
-
-pub paired-all : (rs ns : List ℕ) (ws : List Why) → length rs ≡ 256 → length ns ≡ 256 → length ws ≡ 256 → Paired rs ns ws 256 → Recorded ws (whysBy rs ns)
-unfolding whysIn whysBy
-paired-all rs ns ws a b c p = record { number = c; each = fun-ext at }
-  where
-    out : (l : List ℕ) (j : ℕ) → length l ≤ j → _≡_ {A = ℕ} (getD l j 0) 0
-    out l j h = List·getD-eq-default l 0 h
-
-    past : (j : ℕ) → 256 ≤ j → getD ws j noWhy ≡ whyAt rs ns j
-    past j h = List·getD-eq-default ws noWhy (omega arith) ∙ sym (λ x. record { round = out rs j (omega arith) x; rule = out ns j (omega arith) x })
-
-    pick : (j : ℕ) → (j < 256) ⊎ (256 ≤ j) → getD ws j noWhy ≡ whyAt rs ns j
-    pick j (inl h) = p j h
-    pick j (inr h) = past j h
-
-    at : (q : ℕ) → whysIn ws q ≡ whysBy rs ns q
-    at zero = refl
-    at (suc j) = pick j (ltCase j 256)

@@ -1,8 +1,12 @@
-// Why each true atom of an answer is in the plan (02, request 1): its round and its rule, on the table's words under values that define every atom. This
-// is done once, after the answer; the search itself asks only yes or no. The values do not change, so what each rule could add is found once: one word for
-// each rule, 0 where it adds nothing, else a candidate of crate `foundation`. Then each round walks the rules in their order. An atom that has a round is not marked again,
-// so its rule is the lowest of that round; and a round looks only at marks of earlier rounds, so what it adds itself is not seen by it. Meaning: crate `rounds`; how the
-// rules are walked: `specs/Walk.antt`. Memory: a word of 32 bits for each rule (1,024 at most), two of 16 bits for each atom (256 at most).
+// The foundedness test by rounds (02, request 1): why each true atom of an answer is in the plan, its round and its rule, on the table's words under values that
+// define every atom. Both are kept in the atom's record. It is made once, after the answer: the search asks only yes or no, and has that from
+// `foundation::founded_by`, which keeps no rounds and adds at once what it can. Both find what a rule could add by `foundation::could_add`, and they agree: a model
+// is founded exactly if each true atom has a round (`founded-by-rounds` in crate `rounds`).
+// The values do not change, so what each rule could add is found once: one word for each rule, 0 where it adds nothing, else a candidate of crate `foundation`.
+// Then each round walks the rules in their order. An atom that has a round is not marked again, so its rule is the lowest of that round; and a round looks only at
+// marks of earlier rounds, so what it adds itself is not seen by it. The walks read the rounds through a lent array, and an array of structs cannot be lent: so the
+// marks are two arrays of numbers, and go into the records when the last round is done. Meaning: crate `rounds`; how the rules are walked: `specs/Walk.antt`; how the
+// records are read: `specs/Kept.antt`. Memory: a word of 32 bits for each rule (1,024 at most), two of 16 bits for each atom (256 at most).
 ghost use mathlib.Core.Path.{_≡_};
 ghost use mathlib.Core.Bool.{false};
 ghost use Prim.Native.Nat.{_≤_};
@@ -15,7 +19,10 @@ ghost use Rattle.foundation.specs.Walk.{couldOf, Stands};
 ghost use Rattle.rounds.specs.Rounds.{noWhys, whyOf, Recorded};
 ghost use Rattle.rounds.specs.Marks.{earlier, marksAfter};
 ghost use Rattle.explaining.specs.Walk.{roundsBy, view, codeBy, codesFrom, due, walkCodes, FitCode, FitCodes};
+ghost use Rattle.explaining.specs.Kept.{keptIn, Kept};
 use foundation::Adds;
+use interpretation::Interpretation;
+use interpretation::Record;
 use layout::Table;
 use rounds::Why;
 
@@ -164,26 +171,41 @@ pub fn nothing() -> [Why; 256]
     [none; 256]
 }
 
-// The rounds and the rules side by side.
-pub fn paired(marks: Marks) -> [Why; 256]
-    ensures { λ r. ⌜ Recorded r (view marks) ⌝ }
+// The rounds and the rules laid into the records of an interpretation, of which nothing else changes.
+pub fn keep(marks: Marks, mut it: Interpretation) -> Interpretation
+    ensures { λ r. ⌜ Kept it r (view marks) ⌝ }
+{
+    let mut i: usize = 0;
+    while i < 256 {
+        let level = it.records[i].level;
+        let round = marks.rounds[i];
+        let rule = marks.rules[i];
+        it.records[i] = Record { level, round, rule };
+        i += 1;
+    }
+    it
+}
+
+// The rounds and the rules that the records hold, atom p's at index p - 1.
+pub fn whys_of(it: Interpretation) -> [Why; 256]
+    ensures { λ r. ⌜ Recorded r (keptIn (it .records)) ⌝ }
 {
     let mut whys = nothing();
     let mut i: usize = 0;
     while i < 256 {
-        let round = marks.rounds[i];
-        let rule = marks.rules[i];
+        let round = it.records[i].round;
+        let rule = it.records[i].rule;
         whys[i] = Why { round, rule };
         i += 1;
     }
     whys
 }
 
-// The round and the rule of each atom, atom p's at index p - 1: those of the definition for the true atoms, and 0 and 0 for all others.
-pub fn explain(t: &[i32], tb: Table, values: &[u8; 256]) -> [Why; 256]
-    requires { ⌜ Laid (now t) tb × AllDefined (tb .atoms) (valued (now values)) ⌝ }
-    ensures { λ r. ⌜ Recorded r (whyOf (programOf (now (t .entry)) tb) (tb .atoms) (trueAtoms (tb .atoms) (valued (now (values .entry))))) ⌝ }
+// An answer with the round and the rule of each atom in its record: those of the definition for the true atoms, and 0 and 0 for all others.
+pub fn explain(t: &[i32], tb: Table, it: Interpretation) -> Interpretation
+    requires { ⌜ Laid (now t) tb × AllDefined (tb .atoms) (valued (it .values)) ⌝ }
+    ensures { λ r. ⌜ Kept it r (whyOf (programOf (now (t .entry)) tb) (tb .atoms) (trueAtoms (tb .atoms) (valued (it .values)))) ⌝ }
 {
-    let marks = mark(t, tb, values);
-    paired(marks)
+    let marks = mark(t, tb, &it.values);
+    keep(marks, it)
 }

@@ -158,7 +158,7 @@ fn plan_in(
             let found = setting::search(words, tb, lists, s, limit, candidates);
             let atoms = tb.atoms;
             let solved = solver::plans::report(found, atoms, plan);
-            let whys = solver::whys_for(words, tb, solved, plan);
+            let whys = solver::whys_for(words, tb, solved, found.it);
             Solution { solved, whys }
         }
     }

@@ -1,11 +1,12 @@
 // The two entries of the base: `solve` and `approve` (01, "What comes back"). Neither asks anything of its caller. Meaning: `specs/`, one file for
 // each entry, and of the refusals crate `judging`; that each promise has one answer only: `proofs/Unique.antt`.
 ghost use mathlib.Core.Path.{_≡_};
+ghost use mathlib.Core.Bool.{true};
 ghost use Prim.Native.Nat.{_≤_};
 ghost use lib.ListN.{length};
 ghost use Rattle.meaning.specs.Answers.{model};
 ghost use Rattle.interpretation.specs.State.{trueAtoms, AllDefined};
-ghost use Rattle.interpretation.specs.View.{valued};
+ghost use Rattle.interpretation.specs.View.{view, valued};
 ghost use Rattle.layout.specs.Layout.{Laid, programOf};
 ghost use Rattle.judging.specs.declared.Buffer.the-variants.{Plan};
 ghost use Rattle.rounds.specs.Rounds.{whyOf, Recorded};
@@ -16,6 +17,7 @@ ghost use Rattle.solver.specs.Approving.{ApprovingBy};
 ghost use Rattle.solver.specs.Plans.{badFrom, passesBy, checkedBy, isAnswer, whysFor, whysBy};
 use foundation::Candidates;
 use heads::Lists;
+use interpretation::Interpretation;
 use judging::Buffer;
 use layout::Table;
 use plans::Offer;
@@ -63,7 +65,7 @@ pub fn solve_with(
             let found = jumping::search(words, tb, cycles, lists, limit, candidates);
             let atoms = tb.atoms;
             let solved = plans::report(found, atoms, plan);
-            let whys = whys_by(words, tb, cycles, solved, plan);
+            let whys = whys_by(words, tb, cycles, solved, found.it);
             Solution { solved, whys }
         }
     }
@@ -91,27 +93,27 @@ fn is_answer(solved: Solved) -> bool
     }
 }
 
-// Why each atom is in the plan that was written; without an answer no atom has a round or a rule.
-pub fn whys_for(words: &[i32], tb: Table, solved: Solved, plan: &[u8]) -> [Why; 256]
-    requires { ⌜ Laid (now words) tb × (256 ≤ length (now plan)) ⌝ }
-    ensures { λ r. ⌜ Recorded r (whysFor solved (whyOf (programOf (now (words .entry)) tb) (tb .atoms) (planAtoms (tb .atoms) (now (plan .entry))))) ⌝ }
+// Why each atom is in the answer that the search ended with: its records are filled, and read. Without an answer no atom has a round or a rule.
+pub fn whys_for(words: &[i32], tb: Table, solved: Solved, it: Interpretation) -> [Why; 256]
+    requires { ⌜ Laid (now words) tb × (isAnswer solved ≡ true → AllDefined (tb .atoms) (view it .cell)) ⌝ }
+    ensures { λ r. ⌜ Recorded r (whysFor solved (whyOf (programOf (now (words .entry)) tb) (tb .atoms) (trueAtoms (tb .atoms) (view it .cell)))) ⌝ }
 {
     if !is_answer(solved) {
         return explaining::nothing();
     }
-    let values = plans::values_of(plan, tb.atoms);
-    explaining::explain(words, tb, &values)
+    let answer = explaining::explain(words, tb, it);
+    explaining::whys_of(answer)
 }
 
 // The same by the mode: where the call takes head cycles all are 0.
-pub fn whys_by(words: &[i32], tb: Table, cycles: bool, solved: Solved, plan: &[u8]) -> [Why; 256]
-    requires { ⌜ Laid (now words) tb × (256 ≤ length (now plan)) ⌝ }
-    ensures { λ r. ⌜ Recorded r (whysBy cycles solved (whyOf (programOf (now (words .entry)) tb) (tb .atoms) (planAtoms (tb .atoms) (now (plan .entry))))) ⌝ }
+pub fn whys_by(words: &[i32], tb: Table, cycles: bool, solved: Solved, it: Interpretation) -> [Why; 256]
+    requires { ⌜ Laid (now words) tb × (isAnswer solved ≡ true → AllDefined (tb .atoms) (view it .cell)) ⌝ }
+    ensures { λ r. ⌜ Recorded r (whysBy cycles solved (whyOf (programOf (now (words .entry)) tb) (tb .atoms) (trueAtoms (tb .atoms) (view it .cell)))) ⌝ }
 {
     if cycles {
         return explaining::nothing();
     }
-    whys_for(words, tb, solved, plan)
+    whys_for(words, tb, solved, it)
 }
 
 // Whether an offered plan is an answer set of the table, or a refusal; with or without head cycles. It never writes to the plan. Its memory is lent, as that of

@@ -22,8 +22,8 @@ use Rattle.judging.proofs.Judged.{plan-wide, judged-refused, judged-taken}
 use Rattle.rounds.specs.Rounds.{whyOf, Recorded}
 use Rattle.promises.specs.Plans.{planAtoms}
 use Rattle.promises.specs.Promises.{planAfter}
-use Rattle.solver.specs.Plans.{resultFor, whysFor}
-use Rattle.solver.proofs.Explained.{after-long, explaining-refused, explaining-accepted}
+use Rattle.solver.specs.Plans.{whysFor}
+use Rattle.solver.proofs.Explained.{answer-ended, whys-written, explaining-refused, explaining-accepted}
 use Rattle.sessions.specs.Sessions.{pinsOf, Agrees}
 use Rattle.pins.specs.Memory.{tableIn, pinsIn, takenOf}
 use Rattle.pins.proofs.Words.{number-small}
@@ -83,17 +83,10 @@ report-requires c κs =
 
 whys-for-requires : tie.Need-whys-for-requires
 whys-for-requires c κs =
-    let r = c .before .before .before in
-    let b = r .before .before .before .before .before in
-    let j = b .before .before .before in
-    let old = j .before .before .before .before .before .args .plan .now in
-    let tb = j .judge-by .result .table in
-    let x = taken b in
-    let f = x .2 .laid .fewAtoms in
-    let w = plan-wide _ (x .1 .buffer) in
-    let l : length (r .report .last .1 .1 .0) ≡ length old = ap (length {A = ℕ}) (r .report .ensures .1) ∙ after-long (tb .atoms) (resultFor (tb .atoms) (r .before .before .search .result)) old (omega (arith, f, w)) in
-    let g : 256 ≤ length (r .report .last .1 .1 .0) = omega (arith, l, w) in
-    (x .2 .laid, g)
+    let r = c .before .before in
+    let s = r .before .before in
+    let n = s .before .before .before .before .before .before .judge-by .result .table .atoms in
+    (taken (s .before .before .before) .2 .laid, λ h. s .search .ensures .2 (answer-ended n (s .search .result) (r .report .result) (r .report .ensures .0) h))
 
 returns : tie.Need-returns
 returns c =
@@ -113,7 +106,7 @@ same-length c = search needs
 
 returns-2 : tie.Need-returns-2
 returns-2 c =
-    let r = c .before .before .before .before in
+    let r = c .before .before .before in
     let s = r .before .before in
     let b = s .before .before .before in
     let j = b .before .before .before in
@@ -137,7 +130,8 @@ returns-2 c =
     let z = planning-accepted (tableIn (a .s .now)) pins (a .limit) (a .plan .now) new q d h o e (r .report .ensures .0)
     (r .report .ensures .1 ∙ ap (λ (m : ℕ). planAfter m (o .result) (a .plan .now)) (p .atoms)) in
     let w = subst (Recorded (c .whys-for .result))
-    (ap (λ (P : Program). whysFor q (whyOf P (tb .atoms) (planAtoms (tb .atoms) new))) (p .rules) ∙ ap (λ (m : ℕ). whysFor q (whyOf (program d) m (planAtoms m new))) (p .atoms))
+    (whys-written (tb .atoms) (programOf t tb) (s .search .result) (a .plan .now) new q (r .report .ensures .0) (r .report .ensures .1)
+    ∙ ap (λ (P : Program). whysFor q (whyOf P (tb .atoms) (planAtoms (tb .atoms) new))) (p .rules) ∙ ap (λ (m : ℕ). whysFor q (whyOf (program d) m (planAtoms m new))) (p .atoms))
     (c .whys-for .ensures) in
     (z, explaining-accepted (tableIn (a .s .now)) (a .limit) (a .plan .now) new d h A (Agrees (program d) (takenOf (d .atoms) pins)) (λ Y k. k .isAnswer) (c .whys-for .result) q (z .meaning d h) w)
 

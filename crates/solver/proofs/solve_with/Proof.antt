@@ -23,9 +23,9 @@ use Rattle.rounds.specs.declared.Why.{Why}
 use Rattle.rounds.specs.Rounds.{whyOf, Recorded}
 use Rattle.promises.specs.Plans.{planAtoms}
 use Rattle.promises.specs.Promises.{planAfter}
-use Rattle.solver.specs.Plans.{resultFor, whysBy}
+use Rattle.solver.specs.Plans.{whysBy}
 use Rattle.solver.proofs.Entry.{solving-refused, solving-accepted}
-use Rattle.solver.proofs.Explained.{after-long, explains-refused, explains-accepted}
+use Rattle.solver.proofs.Explained.{answer-ended, whys-written-by, explains-refused, explains-accepted}
 use Rattle.solver.proofs.solve_with.Statement.{statement}
 use Rattle.solver.proofs.solve_with.Tie as tie
 
@@ -61,16 +61,10 @@ nothing-requires c κs = search needs
 
 whys-by-requires : tie.Need-whys-by-requires
 whys-by-requires c κs =
-    let r = c .before .before .before in
-    let b = r .before .before .before .before .before in
-    let old = b .before .before .before .before .before .before .args .plan .now in
-    let tb = b .before .before .before .judge-in .result .table in
-    let x = taken b in
-    let f = x .2 .laid .fewAtoms in
-    let w = plan-wide _ (x .1 .buffer) in
-    let l : length (r .report .last .1 .1 .0) ≡ length old = ap (length {A = ℕ}) (r .report .ensures .1) ∙ after-long (tb .atoms) (resultFor (tb .atoms) (r .before .before .search .result)) old (omega (arith, f, w)) in
-    let g : 256 ≤ length (r .report .last .1 .1 .0) = omega (arith, l, w) in
-    (x .2 .laid, g)
+    let r = c .before .before in
+    let s = r .before .before in
+    let n = s .before .before .before .before .before .before .judge-in .result .table .atoms in
+    (taken (s .before .before .before) .2 .laid, λ h. s .search .ensures .2 (answer-ended n (s .search .result) (r .report .result) (r .report .ensures .0) h))
 
 returns : tie.Need-returns
 returns c =
@@ -88,7 +82,7 @@ same-length c = search needs
 
 returns-2 : tie.Need-returns-2
 returns-2 c =
-    let r = c .before .before .before .before in
+    let r = c .before .before .before in
     let s = r .before .before in
     let b = s .before .before .before in
     let j = b .before .before .before in
@@ -107,7 +101,8 @@ returns-2 c =
     let z = solving-accepted (a .words .now) (a .ask) (a .plan .now) new q d (x .1) A o e (r .report .ensures .0)
     (r .report .ensures .1 ∙ ap (λ (n : ℕ). planAfter n (o .result) (a .plan .now)) (p .atoms)) in
     let w = subst (Recorded (c .whys-by .result))
-    (ap (λ (P : Program). whysBy (a .ask .cycles) q (whyOf P (tb .atoms) (planAtoms (tb .atoms) new))) (p .rules) ∙ ap (λ (n : ℕ). whysBy (a .ask .cycles) q (whyOf (program d) n (planAtoms n new))) (p .atoms))
+    (whys-written-by (a .ask .cycles) (tb .atoms) (programOf (a .words .now) tb) (s .search .result) (a .plan .now) new q (r .report .ensures .0) (r .report .ensures .1)
+    ∙ ap (λ (P : Program). whysBy (a .ask .cycles) q (whyOf P (tb .atoms) (planAtoms (tb .atoms) new))) (p .rules) ∙ ap (λ (n : ℕ). whysBy (a .ask .cycles) q (whyOf (program d) n (planAtoms n new))) (p .atoms))
     (c .whys-by .ensures) in
     (z, explains-accepted (a .ask .cycles) (a .words .now) (a .ask .limit) (a .plan .now) new d (x .1) A (AnswerSet (program d)) (λ Y h. h) (c .whys-by .result) q (z .meaning d (x .1)) w)
 

@@ -6,14 +6,15 @@ use Prim.Native.Nat.{ℕ}
 use Rattle.layout.specs.Layout.{programOf}
 use Rattle.rounds.specs.declared.Why.{Why}
 use Rattle.rounds.specs.Rounds.{whyOf, Recorded}
-use Rattle.promises.specs.Plans.{planAtoms}
+use Rattle.interpretation.specs.State.{trueAtoms}
+use Rattle.interpretation.specs.View.{view}
 use Rattle.solver.specs.Plans.{whysBy}
 use Rattle.solver.proofs.whys_by.Statement.{statement}
 use Rattle.solver.proofs.whys_by.Tie as tie
 
 -- the rounds and rules by the mode
 abbrev by : tie.Start → Bool → ℕ → Why
-by s cycles = let a = s .args in whysBy cycles (a .solved) (whyOf (programOf (a .words .now) (a .tb)) (a .tb .atoms) (planAtoms (a .tb .atoms) (a .plan .now)))
+by s cycles = let a = s .args in whysBy cycles (a .solved) (whyOf (programOf (a .words .now) (a .tb)) (a .tb .atoms) (trueAtoms (a .tb .atoms) (view (a .it) .cell)))
 
 nothing-requires : tie.Need-nothing-requires
 nothing-requires c κs = search needs

@@ -1,4 +1,4 @@
--- `explaining::paired` meets its contract. The invariant of its loop: the records below index i are those of the two arrays. Assumes nothing.
+-- `explaining::whys_of` meets its contract. The invariant of its loop: below index i stands what the records hold. Assumes nothing.
 use borrow.Author.Needs.{needs}
 use mathlib.Core.Path.{_≡_, refl, sym, ap, subst, _∙_}
 use mathlib.Core.List.{List}
@@ -6,15 +6,24 @@ use Prim.Native.Nat.{ℕ, _+_, _-_, _≤_, _<_}
 use native.Mathlib.Omega.{arith}
 use lib.ListN.{length, length-set, length-replicate, getD, set}
 use Rattle.rounds.specs.declared.Why.{Why}
-use Rattle.explaining.proofs.Arrays.{Paired, paired-on, paired-all}
-use Rattle.explaining.proofs.paired.Statement.{statement}
-use Rattle.explaining.proofs.paired.Tie as tie
+use Rattle.rounds.specs.Rounds.{noWhy}
+use Rattle.interpretation.specs.View.{blank}
+use Rattle.interpretation.specs.declared.Record.{Record}
+use Rattle.interpretation.proofs.Laws.{unmapped}
+use Rattle.explaining.specs.Kept.{whyIn}
+use Rattle.explaining.proofs.Kept.{Below, below-on, read-all}
+use Rattle.explaining.proofs.whys_of.Statement.{statement}
+use Rattle.explaining.proofs.whys_of.Tie as tie
+
+-- below index i stands what the records hold
+abbrev Read : List Record → List Why → ℕ → Type 0
+Read records whys i = Below (λ (j : ℕ). whyIn (getD records j blank)) (λ (j : ℕ). getD whys j noWhy) i
 
 abbrev Inv-loop : tie.InvT-loop
-Inv-loop marks whys₀ i₀ whys i = (i ≤ 256) × (length whys ≡ 256) × Paired (marks .rounds) (marks .rules) whys i
+Inv-loop it whys₀ i₀ whys i = (i ≤ 256) × (length whys ≡ 256) × Read (it .records) whys i
 
 abbrev μ-loop : tie.MeasureT-loop
-μ-loop marks whys₀ i₀ whys i = 256 - i
+μ-loop it whys₀ i₀ whys i = 256 - i
 
 nothing-requires : tie.Need-nothing-requires Inv-loop μ-loop
 nothing-requires c κs = search needs
@@ -48,25 +57,24 @@ loop-less c = omega arith
 
 loop-again : tie.Need-loop-again Inv-loop μ-loop
 loop-again c =
-    let b = c .before .before .before in
-    let m = b .before .before .args .t1 in
+    let b = c .before in
+    let rs = b .before .before .args .t1 .records in
     let n = b .loop .inv .1 in (
       omega arith,
       length-set (b .loop .whys) (b .loop .i) _ ∙ n,
-      paired-on (m .rounds) (m .rules) (b .loop .whys) (b .loop .i) (omega arith) (b .loop .inv .2),
+      below-on (λ (v : Why). v) noWhy (λ (j : ℕ). whyIn (getD rs j blank)) (b .loop .whys) (b .loop .i) (whyIn (getD rs (b .loop .i) blank)) (omega arith) refl (b .loop .inv .2),
     )
 
 returns : tie.Need-returns Inv-loop μ-loop
 returns c =
     let b = c .before in
-    let m = b .before .before .args .t1 in
-    let x : length (m .rounds) ≡ 256 = search needs in
-    let y : length (m .rules) ≡ 256 = search needs in
+    let rs = b .before .before .args .t1 .records in
+    let l : length rs ≡ 256 = unmapped rs 256 (search needs) in
     let e : b .loop .i ≡ 256 = omega (arith, b .loop .inv .0, c .loop-test .left) in
-    paired-all (m .rounds) (m .rules) (b .loop .whys) x y (b .loop .inv .1) (subst (Paired (m .rounds) (m .rules) (b .loop .whys)) e (b .loop .inv .2))
+    read-all rs (b .loop .whys) l (b .loop .inv .1) (subst (Read rs (b .loop .whys)) e (b .loop .inv .2))
 
-pub paired-spec : {M : Type 1} → statement M
-paired-spec =
+pub whys-of-spec : {M : Type 1} → statement M
+whys-of-spec =
     tie.close
     (tie.spec
     Inv-loop
