@@ -1,0 +1,2 @@
+-- What is proved of the notation. Assumes nothing.
+pub mod Examples

@@ -1,0 +1,2 @@
+-- `Notation` is to be believed.
+pub mod Notation
