@@ -10,7 +10,7 @@
 --   named c                          the least number of names that does
 --   textOf c                         the text of a table with the contents c
 -- Assumes nothing.
-use mathlib.Core.Bool.{Bool, true, false, cond}
+use mathlib.Core.Bool.{Bool, true, false, not, cond}
 use mathlib.Core.List.{List, [], _∷_, _++_, map}
 use Prim.Native.Nat.{ℕ, zero, suc, _+_, _-_}
 use lib.Dec.{leb, eqb}
@@ -88,13 +88,9 @@ atomText word p = word ++ decimal p
 abbrev pub nameText : ℕ → List ℕ
 nameText j = 35 ∷ decimal j
 
-abbrev pub signText : Bool → List ℕ
-signText true = []
-signText false = notWord
-
 -- the literal w: the name of its aggregate, or the aggregate written out
 unfoldable pub literalText : ℕ → List Aggregate → ℤ → List ℕ
-literalText d gs w = signText (nonNeg w) ++ cond (leb (natAbs w) d) (nameText (natAbs w)) (aggregateText (aggregateBy gs (natAbs w)))
+literalText d gs w = before notWord (not (nonNeg w)) ++ cond (leb (natAbs w) d) (nameText (natAbs w)) (aggregateText (aggregateBy gs (natAbs w)))
 
 abbrev pub bodyParts : ℕ → List Aggregate → List ℕ → List ℕ → List ℤ → List (List ℕ)
 bodyParts d gs ps ns ws = map (atomText []) ps ++ (map (atomText notWord) ns ++ map (literalText d gs) ws)

@@ -1,0 +1,2 @@
+-- `Promise` is to be believed.
+pub mod Promise
