@@ -23,14 +23,13 @@ use Rattle.results.specs.Results.{numberOf, placeOf, reportOf}
 use Rattle.results.proofs.Determined.{report-determines}
 use Rattle.table.specs.Contents.{Contents, program}
 use Rattle.table.specs.Grammar as grammar
-use Rattle.depend.specs.Cycles.{cycleOf}
+use Rattle.depend.specs.Cycles.{cycleBy}
 use Rattle.depend.specs.declared.Cycle.{Cycle}
 use Rattle.depend.specs.declared.Cycle.the-variants as cycle
 use Rattle.search.specs.Search.{Result, answer, noAnswer, limit, Outcome, jump, solve}
-use Rattle.search.specs.Base.{base}
 use Rattle.search.specs.Shown.{trueList, shownResult, shown}
 use Rattle.judging.specs.declared.Buffer.the-variants.{Plan}
-use Rattle.judging.specs.Refusals.{Accepted, Refused, table}
+use Rattle.judging.specs.Refusals.{RefusedBy, table}
 use Rattle.judging.proofs.Judged.{plan-good, cycle-refuses, none-accepts}
 use Rattle.promises.specs.Plans.{bitOf, bytesFrom, planWith, planAtoms}
 use Rattle.promises.specs.Promises.{planAfter, solvedBy, reported}
@@ -77,11 +76,11 @@ shown-by n limit k s p old = refl
 
 -- ---- what meets the promise shows what the definitions report
 
-module _ (t : List ℤ) (lim : ℕ) (old new : List ℕ) (r : Solved) (short : length t ≤ 16384) (wide : 256 ≤ length old) (S : Solving t (record { cycles = false; limit = lim }) old new r) where
-  refusal-shown : (n : ℕ) (f : Refusal) → Refused t (Plan (length old)) (numberOf f) (placeOf f) → shownSolved n r new ≡ shownRefusal f
+module _ (cycles : Bool) (t : List ℤ) (lim : ℕ) (old new : List ℕ) (r : Solved) (short : length t ≤ 16384) (wide : 256 ≤ length old) (S : Solving t (record { cycles = cycles; limit = lim }) old new r) where
+  refusal-shown : (n : ℕ) (f : Refusal) → RefusedBy cycles t (Plan (length old)) (numberOf f) (placeOf f) → shownSolved n r new ≡ shownRefusal f
   refusal-shown n f h = ap (λ (x : Solved). shownSolved n x new) (report-determines r (solved.Refused f) (S .refused (numberOf f) (placeOf f) .1 h))
 
-  by-cycle : (c : Contents) → grammar.contentsOf t ≡ grammar.accepted c → (k : Cycle) → cycleOf (c .atoms) (program c) ≡ k → shownSolved (c .atoms) r new ≡ shownCycle k jump lim c
+  by-cycle : (c : Contents) → grammar.contentsOf t ≡ grammar.accepted c → (k : Cycle) → cycleBy cycles (c .atoms) (program c) ≡ k → shownSolved (c .atoms) r new ≡ shownCycle cycles k jump lim c
   by-cycle c e (cycle.Refused f) i = refusal-shown (c .atoms) f (cycle-refuses t (Plan (length old)) short (plan-good (length old) wide) c e f i)
   by-cycle c e cycle.Nothing i =
       let x = S .searching c (none-accepts t (Plan (length old)) short (plan-good (length old) wide) c e i) in
@@ -89,18 +88,18 @@ module _ (t : List ℤ) (lim : ℕ) (old new : List ℕ) (r : Solved) (short : l
       ap (λ (y : Solved). shownSolved (c .atoms) y new) (x .1 .result) ∙ ap (shownSolved (c .atoms) (reported o)) (x .1 .plan)
       ∙ shown-by (c .atoms) (o .result) (o .choices) (o .skips) (o .passes) old ∙ sym (ap (shown (c .atoms)) (x .1 .jumping))
 
-  by-contents : (x : grammar.Outcome) → grammar.contentsOf t ≡ x → shownSolved (atomsIn x) r new ≡ shownContents x jump lim
+  by-contents : (x : grammar.Outcome) → grammar.contentsOf t ≡ x → shownSolved (atomsIn x) r new ≡ shownContents cycles x jump lim
   by-contents (grammar.refusedFor f) e = refusal-shown 0 f (table short (plan-good (length old) wide) f e refl refl)
-  by-contents (grammar.accepted c) e = by-cycle c e (cycleOf (c .atoms) (program c)) refl
+  by-contents (grammar.accepted c) e = by-cycle c e (cycleBy cycles (c .atoms) (program c)) refl
 
-  pub shown-solved : shownSolved (atomsIn (grammar.contentsOf t)) r new ≡ shownFor jump t lim
+  pub shown-solved : shownSolved (atomsIn (grammar.contentsOf t)) r new ≡ shownFor cycles jump t lim
   shown-solved = by-contents (grammar.contentsOf t) refl
 
-pub case-solved : (c : Case) → c ∈ cases → (old new : List ℕ) (r : Solved) → 256 ≤ length old → Solving (c .words) (record { cycles = false; limit = c .limit }) old new r
+pub case-solved : (c : Case) → c ∈ cases → (old new : List ℕ) (r : Solved) → 256 ≤ length old → Solving (c .words) (record { cycles = c .cycles; limit = c .limit }) old new r
     → shownSolved (atomsIn (grammar.contentsOf (c .words))) r new ≡ c .jumps
 unfolding asReported
 case-solved c m old new r wide S =
     let h = case-as-reported c m in
     let rest = and-r (leb (length (c .words)) 16384) _ h in
     let short = leb-true (length (c .words)) 16384 (and-l (leb (length (c .words)) 16384) _ h) in
-    shown-solved (c .words) (c .limit) old new r short wide S ∙ same-lists (shownFor jump (c .words) (c .limit)) (c .jumps) (and-l (sameList (shownFor jump (c .words) (c .limit)) (c .jumps)) _ rest)
+    shown-solved (c .cycles) (c .words) (c .limit) old new r short wide S ∙ same-lists (shownFor (c .cycles) jump (c .words) (c .limit)) (c .jumps) (and-l (sameList (shownFor (c .cycles) jump (c .words) (c .limit)) (c .jumps)) _ rest)

@@ -16,6 +16,7 @@ use Rattle.valuing.specs.Settling.{settles, settlingOf}
 use Rattle.valuing.specs.Reasons.{reasonOf}
 use Rattle.steps.specs.Steps.{propagate}
 use Rattle.search.specs.Search.{trues, branches, turn, run, solve}
+use Rattle.smaller.specs.Smaller.{propagateRules, others, lacksOne}
 use Rattle.table.specs.Roles as roles
 use Rattle.table.specs.Grammar as grammar
 use Rattle.table.specs.Contents.{program}
@@ -23,7 +24,7 @@ use Rattle.depend.specs.Cycles as cycles
 use Rattle.cases.specs.Cases.{Case, asReported, cases}
 
 pub cases-as-reported : Is (all asReported cases)
-unfolding cases asReported answersOf isAnswer model holds reduct ifLt ifEq has compared literal body arc occurs addedArc anyArc onlyHead supports founded via mutually headCycle returns aggregateCycle highest undone lowest aggregateValue literalValue settles settlingOf reasonOf propagate trues branches turn run solve roles.fault roles.run grammar.times grammar.members grammar.list grammar.atoms grammar.elements grammar.aggregate grammar.rule grammar.aggregates grammar.rules grammar.table grammar.contentsOf program cycles.lowest cycles.cycleBy
+unfolding cases asReported answersOf isAnswer model holds reduct ifLt ifEq has compared literal body arc occurs addedArc anyArc onlyHead supports founded via mutually headCycle returns aggregateCycle highest undone lowest aggregateValue literalValue settles settlingOf reasonOf propagate trues branches turn run solve propagateRules others lacksOne roles.fault roles.run grammar.times grammar.members grammar.list grammar.atoms grammar.elements grammar.aggregate grammar.rule grammar.aggregates grammar.rules grammar.table grammar.contentsOf program cycles.lowest cycles.cycleBy
 cases-as-reported = refl
 
 pub case-as-reported : (c : Case) → c ∈ cases → Is (asReported c)
