@@ -7,4 +7,5 @@ pub mod Explained
 pub mod Values
 pub mod Reached
 pub mod Unique
+pub mod Modes
 pub mod Places
