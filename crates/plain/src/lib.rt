@@ -52,15 +52,11 @@ fn choose(t: &[i32], tb: Table, lists: &Lists, limit: u32, side: Side, plan: &mu
             return Solved::Limit(counted(choices));
         }
         let first = try_side(t, tb, lists, limit, side.on(p, true, choices + 1), plan);
-        return match first {
-            Solved::Nothing(n) => {
-                let sofar = n.choices;
-                try_side(t, tb, lists, limit, side.on(p, false, sofar), plan)
-            }
-            Solved::Answer(_) => first,
-            Solved::Limit(_) => first,
-            Solved::Refused(_) => first,
+        let Solved::Nothing(n) = first else {
+            return first;
         };
+        let sofar = n.choices;
+        return try_side(t, tb, lists, limit, side.on(p, false, sofar), plan);
     }
     tested(t, tb, &side.values, choices, plan)
 }

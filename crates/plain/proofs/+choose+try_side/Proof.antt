@@ -3,12 +3,11 @@
 mod Places
 use borrow.Author.Needs.{needs}
 use native.Mathlib.Omega.{arith}
-use mathlib.Core.Path.{_≡_, sym, ap, _∙_, subst}
+use mathlib.Core.Path.{sym, subst}
 use mathlib.Core.Bool.{true, false}
 use mathlib.Core.List.{List}
 use lib.ListN.{length}
 use Prim.Native.Nat.{ℕ, _≤_}
-use Rattle.results.specs.Results.{kindOf}
 use Rattle.layout.proofs.Inside.{atoms-in}
 use Rattle.search.proofs.Parts.{lowest-none}
 use Rattle.plain.proofs.Sides.{no-more, tried, conflict-side, tested-all, at-limit, fewer, calm-still, first-ends, as-was, few-first, other-side}
@@ -16,7 +15,7 @@ use Rattle.plain.proofs.choose.Reads as choose
 use Rattle.plain.proofs.+choose+try_side.Lts-choose as choose-lts
 use Rattle.plain.proofs.try_side.Reads as try-side
 use Rattle.plain.proofs.+choose+try_side.Lts-try_side as try-side-lts
-use Rattle.plain.proofs.+choose+try_side.Proof.Places.{μ-choose, μ-try-side, choose-at, try-side-at, choose-calls, try-side-calls, none-left, chosen-atom, aim}
+use Rattle.plain.proofs.+choose+try_side.Proof.Places.{μ-choose, μ-try-side, choose-at, try-side-at, choose-calls, try-side-calls, none-left, chosen-atom, aim, holds-some}
 use Rattle.plain.proofs.+choose+try_side.{statement}
 use Rattle.plain.proofs.+choose+try_side.Tie.{close}
 
@@ -79,6 +78,19 @@ choose-try-side-requires t c κs =
 choose-enum-known-first : (t : ℕ) → choose-lts.Need-enum-known-first (choose-calls t) (choose-at t) choose.Post
 choose-enum-known-first t c = search needs
 
+choose-same-length : (t : ℕ) → choose-lts.Need-same-length (choose-calls t) (choose-at t) choose.Post
+choose-same-length t c = search needs
+
+choose-returns-3 : (t : ℕ) → choose-lts.Need-returns-3 (choose-calls t) (choose-at t) choose.Post
+choose-returns-3 t c =
+    let y = c .before .before .before in
+    let x = y .before .before in
+    let k = x .before .before .before in
+    let i = k .before .before .before .before .before in
+    let a = i .before .before .args in
+    first-ends (a .t .now) (a .tb) (a .limit) (a .t5) (i .if1 .left) (k .lowest .given .0 .0) (chosen-atom t k) (x .before .if2 .left) (x .on .result) (x .on .ensures .0) (x .on .ensures .1)
+    (a .plan .now) _ (y .try-side .result) (y .try-side .ensures) (holds-some (y .try-side .result) (c .match2 .keys2))
+
 choose-on-requires-2 : (t : ℕ) → choose-lts.Need-on-requires-2 (choose-calls t) (choose-at t) choose.Post
 choose-on-requires-2 t c κs = aim t (c .before .before .before .before .before .before .before .before .before .before)
 
@@ -108,20 +120,11 @@ choose-try-side-requires-2 t c κs =
       ),
     )
 
-choose-enum-told : (t : ℕ) → choose-lts.Need-enum-told (choose-calls t) (choose-at t) choose.Post
-choose-enum-told t c = search needs
+choose-same-length-2 : (t : ℕ) → choose-lts.Need-same-length-2 (choose-calls t) (choose-at t) choose.Post
+choose-same-length-2 t c = search needs
 
-choose-enum-told-2 : (t : ℕ) → choose-lts.Need-enum-told-2 (choose-calls t) (choose-at t) choose.Post
-choose-enum-told-2 t c = search needs
-
-choose-enum-told-3 : (t : ℕ) → choose-lts.Need-enum-told-3 (choose-calls t) (choose-at t) choose.Post
-choose-enum-told-3 t c = search needs
-
-choose-same-length : (t : ℕ) → choose-lts.Need-same-length (choose-calls t) (choose-at t) choose.Post
-choose-same-length t c = search needs
-
-choose-returns-3 : (t : ℕ) → choose-lts.Need-returns-3 (choose-calls t) (choose-at t) choose.Post
-choose-returns-3 t c =
+choose-returns-4 : (t : ℕ) → choose-lts.Need-returns-4 (choose-calls t) (choose-at t) choose.Post
+choose-returns-4 t c =
     let s = c .before .before in
     let w = s .before .before in
     let d = w .before in
@@ -134,50 +137,8 @@ choose-returns-3 t c =
     other-side (a .t .now) (a .tb) (a .limit) (a .t5) (i .if1 .left) (k .lowest .given .0 .0) (chosen-atom t k) (x .before .if2 .left) (x .on .result) (x .on .ensures .0) (x .on .ensures .1)
     (a .plan .now) _ (y .try-side .result) (y .try-side .ensures) (g .0 .0) (g .1) (w .on2 .result) (w .on2 .ensures .0) (w .on2 .ensures .1) _ (s .try-side2 .result) (s .try-side2 .ensures)
 
-choose-same-length-2 : (t : ℕ) → choose-lts.Need-same-length-2 (choose-calls t) (choose-at t) choose.Post
-choose-same-length-2 t c = search needs
-
-choose-returns-4 : (t : ℕ) → choose-lts.Need-returns-4 (choose-calls t) (choose-at t) choose.Post
-choose-returns-4 t c =
-    let y = c .before .before .before .before in
-    let x = y .before .before in
-    let k = x .before .before .before in
-    let i = k .before .before .before .before .before in
-    let a = i .before .before .args in
-    let o = c .enum-told .given .1 in
-    first-ends (a .t .now) (a .tb) (a .limit) (a .t5) (i .if1 .left) (k .lowest .given .0 .0) (chosen-atom t k) (x .before .if2 .left) (x .on .result) (x .on .ensures .0) (x .on .ensures .1)
-    (a .plan .now) _ (y .try-side .result) (y .try-side .ensures) (λ e. (let h : _≡_ {A = ℕ} 0 1 = sym (ap kindOf o) ∙ e in omega arith))
-
-choose-same-length-3 : (t : ℕ) → choose-lts.Need-same-length-3 (choose-calls t) (choose-at t) choose.Post
-choose-same-length-3 t c = search needs
-
-choose-returns-5 : (t : ℕ) → choose-lts.Need-returns-5 (choose-calls t) (choose-at t) choose.Post
-choose-returns-5 t c =
-    let y = c .before .before .before .before in
-    let x = y .before .before in
-    let k = x .before .before .before in
-    let i = k .before .before .before .before .before in
-    let a = i .before .before .args in
-    let o = c .enum-told2 .given .1 in
-    first-ends (a .t .now) (a .tb) (a .limit) (a .t5) (i .if1 .left) (k .lowest .given .0 .0) (chosen-atom t k) (x .before .if2 .left) (x .on .result) (x .on .ensures .0) (x .on .ensures .1)
-    (a .plan .now) _ (y .try-side .result) (y .try-side .ensures) (λ e. (let h : _≡_ {A = ℕ} 2 1 = sym (ap kindOf o) ∙ e in omega arith))
-
-choose-same-length-4 : (t : ℕ) → choose-lts.Need-same-length-4 (choose-calls t) (choose-at t) choose.Post
-choose-same-length-4 t c = search needs
-
-choose-returns-6 : (t : ℕ) → choose-lts.Need-returns-6 (choose-calls t) (choose-at t) choose.Post
-choose-returns-6 t c =
-    let y = c .before .before .before .before in
-    let x = y .before .before in
-    let k = x .before .before .before in
-    let i = k .before .before .before .before .before in
-    let a = i .before .before .args in
-    let o = c .enum-told3 .given .1 in
-    first-ends (a .t .now) (a .tb) (a .limit) (a .t5) (i .if1 .left) (k .lowest .given .0 .0) (chosen-atom t k) (x .before .if2 .left) (x .on .result) (x .on .ensures .0) (x .on .ensures .1)
-    (a .plan .now) _ (y .try-side .result) (y .try-side .ensures) (λ e. (let h : _≡_ {A = ℕ} 3 1 = sym (ap kindOf o) ∙ e in omega arith))
-
-choose-enum-told-4 : (t : ℕ) → choose-lts.Need-enum-told-4 (choose-calls t) (choose-at t) choose.Post
-choose-enum-told-4 t c = search needs
+choose-enum-told : (t : ℕ) → choose-lts.Need-enum-told (choose-calls t) (choose-at t) choose.Post
+choose-enum-told t c = search needs
 
 choose-tested-requires : (t : ℕ) → choose-lts.Need-tested-requires (choose-calls t) (choose-at t) choose.Post
 choose-tested-requires t c κs =
@@ -185,11 +146,11 @@ choose-tested-requires t c κs =
     let R = e .before .before .before .before .before .before .before .pre .1 in
     record { laid = R .laid; defined = lowest-none _ _ (none-left t e); room = R .room }
 
-choose-same-length-5 : (t : ℕ) → choose-lts.Need-same-length-5 (choose-calls t) (choose-at t) choose.Post
-choose-same-length-5 t c = search needs
+choose-same-length-3 : (t : ℕ) → choose-lts.Need-same-length-3 (choose-calls t) (choose-at t) choose.Post
+choose-same-length-3 t c = search needs
 
-choose-returns-7 : (t : ℕ) → choose-lts.Need-returns-7 (choose-calls t) (choose-at t) choose.Post
-choose-returns-7 t c =
+choose-returns-5 : (t : ℕ) → choose-lts.Need-returns-5 (choose-calls t) (choose-at t) choose.Post
+choose-returns-5 t c =
     let x = c .before .before in
     let e = x .before .before .before .before in
     let i = e .before .before .before .before .before in
@@ -245,23 +206,16 @@ pub +choose+try-side-spec : {M : Type 1} → statement M
     (choose-on-requires t)
     (choose-try-side-requires t)
     (choose-enum-known-first t)
-    (choose-on-requires-2 t)
-    (choose-try-side-requires-2 t)
-    (choose-enum-told t)
-    (choose-enum-told-2 t)
-    (choose-enum-told-3 t)
     (choose-same-length t)
     (choose-returns-3 t)
+    (choose-on-requires-2 t)
+    (choose-try-side-requires-2 t)
     (choose-same-length-2 t)
     (choose-returns-4 t)
-    (choose-same-length-3 t)
-    (choose-returns-5 t)
-    (choose-same-length-4 t)
-    (choose-returns-6 t)
-    (choose-enum-told-4 t)
+    (choose-enum-told t)
     (choose-tested-requires t)
-    (choose-same-length-5 t)
-    (choose-returns-7 t))
+    (choose-same-length-3 t)
+    (choose-returns-5 t))
     λ t. try-side-lts.spec
     (try-side-calls t)
     (try-side-at t)

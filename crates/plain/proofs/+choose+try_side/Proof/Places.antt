@@ -1,10 +1,19 @@
--- The measures of `choose` and `try_side`, what each learns of those that it calls, and two places of `choose`: where no atom is undefined, and where the lowest one is
--- chosen. The measures are twice the number of undefined atoms, and one more for `try_side`: a choice sets one that was undefined, and propagation leaves no more
+-- The measures of `choose` and `try_side`, what each learns of those that it calls, and places of `choose`: where no atom is undefined, where the lowest one is
+-- chosen, where the first side ends the search. The measures are twice the number of undefined atoms, and one more for `try_side`: a choice sets one that was undefined, and propagation leaves no more
 -- undefined than there were.
 -- Assumes nothing.
 use native.Mathlib.Omega.{arith}
 use mathlib.Core.Path.{_≡_, sym, ap, _∙_}
 use mathlib.Core.Option.{none, some}
+use Prim.{tt}
+use mathlib.Core.Logic.{_≢_}
+use mathlib.Core.List.{[], _∷_}
+use types.Run.{OneOf, miss}
+use denote.Enum.Declared.{tagOf}
+use Rattle.results.proofs.Solved.{the-type}
+use Rattle.results.specs.declared.Solved.{Solved}
+use Rattle.results.specs.declared.Solved.the-variants as solved
+use Rattle.results.specs.Results.{kindOf}
 use Prim.Native.Nat.{ℕ, _+_, _*_, _≤_, _<_}
 use borrow.Fn.Kinds.{In}
 use borrow.Fn.PlainCycle.{Measures, is, falls, and}
@@ -63,9 +72,9 @@ try-side-calls t = (propagate-reads.Asked, propagate-reads.Learnt, choose-below 
 -- ---- the places of `choose`
 
 -- no atom is undefined
-pub none-left : (t : ℕ) (c : choose-lts.After-enum-told4 (choose-calls t) (choose-at t) choose.Post)
+pub none-left : (t : ℕ) (c : choose-lts.After-enum-told (choose-calls t) (choose-at t) choose.Post)
     → let a = c .before .before .before .before .before .before .before .args in lowest (valued (a .t5 .values)) (a .tb .atoms) ≡ none
-none-left t c = sym (c .before .before .lowest-undefined .ensures) ∙ ap found (c .enum-told4 .given .1)
+none-left t c = sym (c .before .before .lowest-undefined .ensures) ∙ ap found (c .enum-told .given .1)
 
 -- the atom that is chosen
 pub chosen-atom : (t : ℕ) (c : choose-lts.After-lowest (choose-calls t) (choose-at t) choose.Post)
@@ -77,3 +86,10 @@ aim t c =
     let b = c .before .before .before .before .before .before .before in
     let h = lowest-some (valued (b .args .t5 .values)) (b .args .tb .atoms) (c .lowest .given .0 .0) (chosen-atom t c) in
     (h .0, omega (arith, h .1, b .pre .1 .laid .fewAtoms))
+
+-- a first side that is not told to hold nothing
+pub holds-some : (s : Solved) → OneOf (0 ∷ 2 ∷ 3 ∷ []) (tagOf the-type s) → kindOf s ≢ 1
+holds-some (solved.Answer c) h e = absurd (let z : _≡_ {A = ℕ} 0 1 = e in omega arith)
+holds-some (solved.Nothing c) h e = miss (0 ∷ 2 ∷ 3 ∷ []) 1 tt h
+holds-some (solved.Limit c) h e = absurd (let z : _≡_ {A = ℕ} 2 1 = e in omega arith)
+holds-some (solved.Refused f) h e = absurd (let z : _≡_ {A = ℕ} 3 1 = e in omega arith)
