@@ -17,7 +17,7 @@ BEGIN, END = "<!-- believed: begin -->", "<!-- believed: end -->"
 # where the functions stand that someone outside the repository calls
 PUBLIC = [
     "results/src/lib.rt", "solver/src/lib.rt", "plain/src/lib.rt", "text/src/reader.rt", "text/src/printer.rt", "reply/src/lib.rt",
-    "aspif_read/src/lib.rt", "aspif_write/src/lib.rt", "stored/src/lib.rt", "pins/src/lib.rt",
+    "aspif_read/src/lib.rt", "aspif_write/src/lib.rt", "stored/src/lib.rt", "pins/src/lib.rt", "show/src/lib.rt",
 ]
 PUBLIC_FOLDERS = ["dock/src", "desk/src"]
 WORD = r"[^\s(){}\[\]⌜⌝,;.λ:=]+"
