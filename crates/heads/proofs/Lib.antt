@@ -6,3 +6,4 @@ pub mod Room
 pub mod Counting
 pub mod Putting
 pub mod Placing
+pub mod Taking

@@ -1,7 +1,7 @@
 -- The lists while the rules are put into them, from the last rule on.
 --   Placed t tb l a   the lists lie in the array a one after the other, each ends where all its rules will end, and the rules at l are put into their lists
 -- Assumes nothing.
-use mathlib.Core.Path.{_≡_, sym, ap, _∙_, subst}
+use mathlib.Core.Path.{_≡_, refl, sym, ap, _∙_, subst}
 use mathlib.Core.Logic.{_⊎_, inl, inr, _≢_}
 use mathlib.Core.Bool.{Bool, cond}
 use mathlib.Core.List.{List, [], _∷_}
@@ -14,7 +14,8 @@ use Rattle.meaning.specs.Lists.{has}
 use Rattle.meaning.proofs.Cond.{eqCase}
 use Rattle.layout.specs.Layout.{atoms, partAt, Members, Laid}
 use Rattle.layout.specs.declared.Table.{Table}
-use Rattle.heads.specs.Heads.{bounds, size, placesOf, withHead, listAt, Holds, Listed, Counts, endOf, Ended, Regions, Room, Put}
+use Rattle.heads.specs.Heads.{bounds, size, placesOf, withHead, listAt, Holds, Part, Listed, Whole, Counts, endOf, Ended, Regions, Room, Put}
+use Rattle.heads.proofs.Laws.{places-lie}
 use Rattle.heads.proofs.Walks.{places-length, with-nil, with-split, with-here, with-drop, has-zero}
 use Rattle.heads.proofs.Lists.{part}
 use Rattle.heads.proofs.Room.{total, total-zero, total-on, total-rise, total-fits}
@@ -143,9 +144,15 @@ module _ (t : List ℤ) (tb : Table) (laid : Laid t tb) where
 
   -- ---- after the first rule
 
-  pub placed-listed : (a : List ℕ) → Placed t tb P a → Listed t tb a
-  placed-listed a f = record {
-    long = f .regions .sized;
-    all = holds P a f 0 P (omega arith) (f .all);
-    each = λ p l h. let s : p ≤ 256 = omega (arith, h, laid .fewAtoms) in holds P a f p (withHead t p P) s (f .each p l s);
+  pub placed-whole : (a : List ℕ) → Placed t tb P a → Whole t tb a
+  placed-whole a f = record {
+    listed = record {
+      long = f .regions .sized;
+      first = f .regions .first;
+      all = holds P a f 0 (listAt a 0) (omega arith) refl;
+      part = subst (Part t tb) (sym (f .all)) (record { lie = places-lie tb t (tb .first) (tb .rules) (laid .rulesLie); heads = λ p. refl });
+      apart = λ p l h. omega (arith, f .ends 0 (omega arith), f .regions .apart 0 p (omega (arith, l)) (omega (arith, h, laid .fewAtoms)));
+      each = λ p l h. let s : p ≤ 256 = omega (arith, h, laid .fewAtoms) in holds P a f p (withHead t p P) s (f .each p l s);
+    };
+    whole = f .all;
   }

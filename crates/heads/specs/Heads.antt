@@ -5,7 +5,10 @@
 --   withHead t p l     those of the rules at l that have p in the head, in the same order
 --   listAt a k         list k of the array a
 --   Holds a k l        list k lies in the array, and it is l
---   Listed t tb a      list 0 has all rules of the table, list p those with p in the head
+--   Part t tb l        rules lie at the places l, and those of them with an atom in the head are the table's
+--   taking t a         the rules of list 0: those that take part
+--   Listed t tb a      list 0 has a part of the table's rules, list p those with p in the head
+--   Whole t tb a       and list 0 has all rules of the table
 --   Counted l a b      b is a after a rule with the head l is counted: one more at 2p + 1 for each p of l
 --   Counts t tb l a    all rules stand in list 0's place, and at 2p + 1 the number of the rules at l that have p in the head
 --   endOf a s p        where list p ends, by the counts of a, list 0 ending at s
@@ -16,11 +19,12 @@
 -- Assumes nothing.
 use mathlib.Core.Path.{_≡_}
 use mathlib.Core.Bool.{true, cond}
-use mathlib.Core.List.{List, [], _∷_}
+use mathlib.Core.List.{List, [], _∷_, map}
 use Prim.Native.Nat.{ℕ, zero, suc, _+_, _-_, _*_, _≤_, _<_}
 use lib.IntN.{ℤ}
 use lib.ListN.{length, getD, take, drop}
 use Rattle.meaning.specs.Lists.{has}
+use Rattle.meaning.specs.Program.{Program}
 use Rattle.layout.specs.Layout.{pastRule, ruleAt, RuleLies}
 use Rattle.layout.specs.declared.Table.{Table}
 
@@ -56,10 +60,26 @@ pub record Holds (a : List ℕ) (k : ℕ) (l : List ℕ) : Type 0 where
   pub fits : getD a (2 * k + 1) 0 ≤ length a
   pub same : listAt a k ≡ l
 
+-- so only constraints may be missing, and the order is the table's for the rules with an atom in the head
+pub record Part (t : List ℤ) (tb : Table) (l : List ℕ) : Type 0 where
+  pub lie : AllLie tb t l
+  pub heads : (p : ℕ) → withHead t p l ≡ withHead t p (placesOf t tb)
+
+abbrev pub taking : List ℤ → List ℕ → Program
+taking t a = map (ruleAt t) (listAt a 0)
+
+-- list 0 begins behind the bounds, and no other list in the room for all rules: so list 0 may be made again with other rules
 pub record Listed (t : List ℤ) (tb : Table) (a : List ℕ) : Type 0 where
   pub long : length a ≡ size
-  pub all : Holds a 0 (placesOf t tb)
+  pub first : getD a 0 0 ≡ bounds
+  pub all : Holds a 0 (listAt a 0)
+  pub part : Part t tb (listAt a 0)
+  pub apart : (p : ℕ) → 1 ≤ p → p ≤ tb .atoms → bounds + tb .rules ≤ getD a (2 * p) 0
   pub each : (p : ℕ) → 1 ≤ p → p ≤ tb .atoms → Holds a p (withHead t p (placesOf t tb))
+
+pub record Whole (t : List ℤ) (tb : Table) (a : List ℕ) : Type 0 where
+  pub listed : Listed t tb a
+  pub whole : listAt a 0 ≡ placesOf t tb
 
 -- ---- counting
 

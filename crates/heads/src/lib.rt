@@ -9,7 +9,7 @@ ghost use Prim.Native.Nat.{ℕ, _+_, _*_, _≤_, _<_};
 ghost use lib.ListN.{length, getD, take, drop};
 ghost use Rattle.meaning.specs.Lists.{has};
 ghost use Rattle.layout.specs.Layout.{atoms, Members, Laid};
-ghost use Rattle.heads.specs.Heads.{bounds, size, placesOf, listAt, Listed, Counted, Counts, endOf, Ended, Regions, Room, Put};
+ghost use Rattle.heads.specs.Heads.{bounds, size, placesOf, listAt, Whole, Counted, Counts, endOf, Ended, Regions, Room, Put};
 use layout::Table;
 
 // The words that say where lists begin and end: two for list 0 and two for each atom.
@@ -153,7 +153,7 @@ pub fn put_head(head: &[i32], rule: u16, lists: &mut [u16])
 // All rules put into their lists, from the last to the first, where each list is empty and its end is known.
 pub fn put_rules(t: &[i32], tb: Table, lists: &mut [u16])
     requires { ⌜ Laid (now t) tb × ((a : List ℕ) × Counts (now t) tb (placesOf (now t) tb) a × Ended (bounds + tb .rules) 256 a (now lists)) ⌝ }
-    ensures { λ _. ⌜ Listed (now (t .entry)) tb (now (lists .exit)) ⌝ }
+    ensures { λ _. ⌜ Whole (now (t .entry)) tb (now (lists .exit)) ⌝ }
 {
     let mut done: usize = 0;
     while done < tb.rules {
@@ -170,7 +170,7 @@ pub fn put_rules(t: &[i32], tb: Table, lists: &mut [u16])
 // The lists of an accepted table.
 pub fn fill(t: &[i32], tb: Table, lists: &mut [u16])
     requires { ⌜ Laid (now t) tb × (length (now lists) ≡ size) ⌝ }
-    ensures { λ _. ⌜ Listed (now (t .entry)) tb (now (lists .exit)) ⌝ }
+    ensures { λ _. ⌜ Whole (now (t .entry)) tb (now (lists .exit)) ⌝ }
 {
     clear(lists);
     rules(t, tb, lists);

@@ -18,7 +18,7 @@ use Rattle.results.specs.declared.Refusal.the-variants as refusal
 use Rattle.results.specs.Results.{numberOf, placeOf}
 use Rattle.layout.specs.declared.Table.{Table}
 use Rattle.layout.specs.Layout.{Laid, programOf}
-use Rattle.heads.specs.Heads.{Listed}
+use Rattle.heads.specs.Heads.{Whole}
 use Rattle.table.specs.Contents.{Contents, program}
 use Rattle.table.specs.Places.{tableOf}
 use Rattle.table.specs.declared.Fault.{Fault}
@@ -56,4 +56,4 @@ JudgedWords cycles t r = length t ≤ 16384 → (b : Buffer) → earns b ≡ non
 
 -- the lists of rules by head of a table that is not refused
 abbrev pub Filled : List ℤ → Reading → List ℕ → Type 0
-Filled t r a = r .fault ≡ fault.Nothing → Listed t (r .table) a
+Filled t r a = r .fault ≡ fault.Nothing → Whole t (r .table) a

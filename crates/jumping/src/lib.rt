@@ -3,8 +3,8 @@
 // `smaller`; how the code's structs are
 // read: `specs/Jumping.antt`. What can be asked through lent values stands apart (crates `rules`, `support`, `turns`); what changes the state stands in
 // the loop of `search_by`, so that the reasons exist once.
-ghost use Rattle.layout.specs.Layout.{Laid, programOf};
-ghost use Rattle.heads.specs.Heads.{Listed};
+ghost use Rattle.layout.specs.Layout.{Laid};
+ghost use Rattle.heads.specs.Heads.{Listed, taking};
 ghost use Rattle.smaller.specs.Cyclic.{baseBy};
 ghost use Rattle.jumping.specs.Jumping.{Ready, Searches, Solves};
 use foundation::Candidates;
@@ -22,7 +22,7 @@ use support::Next;
 use turns::Back;
 use turns::Turn;
 
-// The search, by the lists of the table's rules: propagate, then answer, end, open a level or go back, and again.
+// The search over the rules of list 0, by the lists of the table's rules: propagate, then answer, end, open a level or go back, and again.
 pub fn search_by(
     t: &[i32],
     tb: Table,
@@ -34,7 +34,7 @@ pub fn search_by(
     candidates: &mut Candidates,
 ) -> Halt
     requires { ⌜ Laid (now t) tb × Listed (now t) tb (now lists) × Ready (tb .atoms) limit from ⌝ }
-    ensures { λ r. ⌜ Searches (baseBy cycles (programOf (now (t .entry)) tb) (tb .atoms)) limit from rows0 r ⌝ }
+    ensures { λ r. ⌜ Searches (baseBy cycles (taking (now (t .entry)) (now (lists .entry))) (tb .atoms)) limit from rows0 r ⌝ }
 {
     let mut it = from.it;
     let mut reasons = rows0;
@@ -140,7 +140,7 @@ pub fn search_by(
             made += 1;
         };
         most = turns::greater(most, made);
-        let turn = turns::decide(t, tb, cycles, out, &it.values, choices, limit, candidates);
+        let turn = turns::decide(t, tb, cycles, lists, out, &it.values, choices, limit, candidates);
         match turn {
             Turn::Answer(spent) => {
                 choices += spent;
@@ -202,7 +202,7 @@ pub fn search_by(
     }
 }
 
-// The search over an accepted table from its start, by the lists of its rules. What the candidates' array held before does not matter.
+// The search over an accepted table from its start, by the lists of its rules: those of list 0 take part. What the candidates' array held before does not matter.
 pub fn search(
     t: &[i32],
     tb: Table,
@@ -212,7 +212,7 @@ pub fn search(
     candidates: &mut Candidates,
 ) -> Found
     requires { ⌜ Laid (now t) tb × Listed (now t) tb (now lists) ⌝ }
-    ensures { λ r. ⌜ Solves (baseBy cycles (programOf (now (t .entry)) tb) (tb .atoms)) limit r ⌝ }
+    ensures { λ r. ⌜ Solves (baseBy cycles (taking (now (t .entry)) (now (lists .entry))) (tb .atoms)) limit r ⌝ }
 {
     let it = Interpretation::start();
     let from = Start {

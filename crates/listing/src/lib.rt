@@ -5,8 +5,8 @@ ghost use Prim.Native.Nat.{_+_, _*_, _≤_, _<_, _/_};
 ghost use lib.ListN.{length};
 ghost use Rattle.interpretation.specs.State.{unset, trueAtoms};
 ghost use Rattle.interpretation.specs.View.{view, valued, choices};
-ghost use Rattle.layout.specs.Layout.{Laid, programOf};
-ghost use Rattle.heads.specs.Heads.{Listed};
+ghost use Rattle.layout.specs.Layout.{Laid};
+ghost use Rattle.heads.specs.Heads.{Listed, taking};
 ghost use Rattle.levels.specs.Levels.{upTo};
 ghost use Rattle.smaller.specs.Cyclic.{baseBy};
 ghost use Rattle.turns.specs.Turns.{ChosenIn, backOf};
@@ -124,7 +124,7 @@ pub fn list_by(
     candidates: &mut Candidates,
 ) -> Told
     requires { ⌜ Laid (now t) tb × Listed (now t) tb (now lists) ⌝ }
-    ensures { λ r. ⌜ ListsBy (baseBy cycles (programOf (now (t .entry)) tb) (tb .atoms)) limit (length (now (rows .entry)) / 256) (now (rows .entry)) (now (rows .exit)) r ⌝ }
+    ensures { λ r. ⌜ ListsBy (baseBy cycles (taking (now (t .entry)) (now (lists .entry))) (tb .atoms)) limit (length (now (rows .entry)) / 256) (now (rows .entry)) (now (rows .exit)) r ⌝ }
 {
     let room = rows.len() / ROW;
     let n = tb.atoms;

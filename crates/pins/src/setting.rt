@@ -4,8 +4,8 @@ ghost use mathlib.Core.Path.{_≡_};
 ghost use mathlib.Core.Bool.{Bool};
 ghost use Prim.Native.Nat.{_≤_, _<_};
 ghost use lib.ListN.{length};
-ghost use Rattle.layout.specs.Layout.{Laid, programOf};
-ghost use Rattle.heads.specs.Heads.{Listed};
+ghost use Rattle.layout.specs.Layout.{Laid};
+ghost use Rattle.heads.specs.Heads.{Listed, taking};
 ghost use Rattle.interpretation.specs.State.{setAt};
 ghost use Rattle.interpretation.specs.View.{view, valued};
 ghost use Rattle.search.specs.Base.{pinned};
@@ -87,7 +87,7 @@ pub fn search(
     candidates: &mut Candidates,
 ) -> Found
     requires { ⌜ Laid (now t) tb × Listed (now t) tb (now lists) × (length (now s) ≡ 16450) ⌝ }
-    ensures { λ r. ⌜ Solves (pinned (programOf (now (t .entry)) tb) (tb .atoms) (pinsOf (takenOf (tb .atoms) (pinsIn (now (s .entry)))))) limit r ⌝ }
+    ensures { λ r. ⌜ Solves (pinned (taking (now (t .entry)) (now (lists .entry))) (tb .atoms) (pinsOf (takenOf (tb .atoms) (pinsIn (now (s .entry)))))) limit r ⌝ }
 {
     let n = tb.atoms;
     let it = start(s, n);

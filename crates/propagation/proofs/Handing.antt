@@ -4,22 +4,20 @@ use Prim.Native.Nat.{ℕ, suc}
 use mathlib.Core.Path.{_≡_, sym, ap, subst}
 use mathlib.Core.Bool.{Bool, false}
 use mathlib.Core.List.{List}
-use lib.IntN.{ℤ}
+use Rattle.meaning.specs.Program.{Program}
 use Rattle.levels.specs.View.{row, rows}
 use Rattle.interpretation.specs.State.{withCells}
 use Rattle.interpretation.specs.View.{view, cells}
 use Rattle.interpretation.specs.declared.Interpretation.{Interpretation}
-use Rattle.layout.specs.declared.Table.{Table}
-use Rattle.layout.specs.Layout.{programOf}
 use Rattle.outcome.specs.declared.Outcome.{Outcome}
 use Rattle.steps.specs.Steps.{Work, Propagated, passes, passesMade, propagate}
 use Rattle.propagation.specs.Propagation.{work, verdictBy}
 use Rattle.propagation.proofs.Stepped.{Kept, kept-cells}
 
-module _ (t : List ℤ) (tb : Table) (it0 : Interpretation) (rows0 : List (List ℕ)) where
+module _ (P : Program) (n : ℕ) (it0 : Interpretation) (rows0 : List (List ℕ)) where
   -- what the defined propagation comes to from there
   abbrev pub result : Propagated
-  result = propagate (programOf t tb) (tb .atoms) (view it0) (rows rows0)
+  result = propagate P n (view it0) (rows rows0)
 
   pub record Handed (made : ℕ) (it : Interpretation) (reasons : List (List ℕ)) (why : List ℕ) (out : Outcome) : Type 0 where
     pub state : view it ≡ withCells (view it0) (result .cell)
@@ -29,8 +27,8 @@ module _ (t : List ℤ) (tb : Table) (it0 : Interpretation) (rows0 : List (List 
 
   pub handed : (made : ℕ) (it : Interpretation) (reasons : List (List ℕ)) (why : List ℕ) (out : Outcome) (b : Bool) → Kept (view it0) (view it)
       → record { level = it .depth; cell = cells (it .values) (it .records); reason = rows reasons; verdict = verdictBy out (row why); changed = b }
-      ≡ passes (programOf t tb) (tb .atoms) (suc (tb .atoms)) (work it0 rows0 false)
-      → made ≡ passesMade (programOf t tb) (tb .atoms) (suc (tb .atoms)) (work it0 rows0 false) → Handed made it reasons why out
+      ≡ passes P n (suc n) (work it0 rows0 false)
+      → made ≡ passesMade P n (suc n) (work it0 rows0 false) → Handed made it reasons why out
   unfolding propagate
   handed made it reasons why out b k e m = record {
     state = kept-cells (view it0) (view it) _ k (ap (λ (w : Work). w .cell) e);

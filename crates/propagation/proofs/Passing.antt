@@ -11,11 +11,11 @@ use lib.ListN.{length, getD, take, drop, length-drop}
 use lib.Seq.{length-take-le, drop-cons, getD-take, getD-drop}
 use Rattle.meaning.specs.Program.{Rule, Program}
 use Rattle.levels.specs.Levels.{Levels}
-use Rattle.layout.specs.Layout.{ruleAt, RuleLies, programOf, Laid}
+use Rattle.layout.specs.Layout.{ruleAt, RuleLies, programOf}
 use Rattle.layout.specs.declared.Table.{Table}
-use Rattle.heads.specs.Heads.{placesOf, Listed}
-use Rattle.heads.proofs.Laws.{places-lie, rules-at}
-use Rattle.steps.specs.Steps.{Verdict, conflict, Work, ifSettled, stepABC, countOf, isU, bodyLits, headLits, holdsNow, stepRule, stepDE, support, stepAtom, rulePass, atomPass, pass, passes, further, passesMade}
+use Rattle.heads.specs.Heads.{listAt, Part, Listed}
+use Rattle.support.proofs.Atom.{part-support}
+use Rattle.steps.specs.Steps.{Verdict, conflict, Work, ifSettled, stepABC, countOf, isU, bodyLits, headLits, holdsNow, stepRule, stepDE, Support, support, stepAtom, rulePass, atomPass, pass, passes, further, passesMade}
 
 -- ---- rules
 
@@ -38,24 +38,16 @@ module _ (t : List ℤ) (a : List ℕ) (i e : ℕ) (w : Work) where
       let n : e - i ≡ 0 = omega arith in
       ap (λ (m : ℕ). rulePass (map (ruleAt t) (take m (drop i a))) w) n
 
-module _ (t : List ℤ) (tb : Table) (a : List ℕ) (listed : Listed t tb a) where
-  pub all-rules : rulesAt t a (getD a 0 0) (getD a 1 0) ≡ programOf t tb
-  all-rules = ap (map (ruleAt t)) (listed .all .same) ∙ rules-at t (tb .first) (tb .rules)
-
-  -- a rule lies at each place of list 0
-  pub lies-at : Laid t tb → (i : ℕ) → getD a 0 0 ≤ i → i < getD a 1 0 → RuleLies (tb .atoms) (tb .aggregates) t (getD a i 0)
-  lies-at laid i l h =
-      let f = getD a 0 0 in
-      let e = getD a 1 0 in
-      let s = listed .all .same in
-      let fit = listed .all .fits in
-      let m = length-drop f a in
-      let n : length (take (e - f) (drop f a)) ≡ e - f = length-take-le (e - f) (drop f a) (omega (arith, m, fit)) in
-      let c : length (take (e - f) (drop f a)) ≡ length (placesOf t tb) = ap (λ (x : List ℕ). length x) s in
-      let k : f + (i - f) ≡ i = omega (arith, l) in
-      let q : getD (placesOf t tb) (i - f) 0 ≡ getD a i 0 =
-      ap (λ (x : List ℕ). getD x (i - f) 0) (sym s) ∙ getD-take (e - f) (drop f a) (i - f) 0 (omega (arith, l, h)) ∙ getD-drop f a (i - f) 0 ∙ ap (λ (j : ℕ). getD a j 0) k in
-      subst (RuleLies (tb .atoms) (tb .aggregates) t) q (places-lie tb t (tb .first) (tb .rules) (laid .rulesLie) (i - f) (omega (arith, l, h, n, c)))
+-- a rule lies at each place of list 0
+pub lies-at : (t : List ℤ) (tb : Table) (a : List ℕ) → Listed t tb a → (i : ℕ) → getD a 0 0 ≤ i → i < getD a 1 0 → RuleLies (tb .atoms) (tb .aggregates) t (getD a i 0)
+lies-at t tb a listed i l h =
+    let f = getD a 0 0 in
+    let e = getD a 1 0 in
+    let m = length-drop f a in
+    let n : length (take (e - f) (drop f a)) ≡ e - f = length-take-le (e - f) (drop f a) (omega (arith, m, listed .all .fits)) in
+    let k : f + (i - f) ≡ i = omega (arith, l) in
+    let q : getD (listAt a 0) (i - f) 0 ≡ getD a i 0 = getD-take (e - f) (drop f a) (i - f) 0 (omega (arith, l, h)) ∙ getD-drop f a (i - f) 0 ∙ ap (λ (j : ℕ). getD a j 0) k in
+    subst (RuleLies (tb .atoms) (tb .aggregates) t) q (listed .part .lie (i - f) (omega (arith, l, h, n)))
 
 -- ---- atoms p .. n
 
@@ -70,6 +62,15 @@ module _ (P : Program) (n p : ℕ) (w : Work) where
   atoms-none h =
       let e : suc n - p ≡ 0 = omega arith in
       ap (λ (k : ℕ). atomPass P k p w) e
+
+-- steps d and e read the rules with an atom in the head alone: so a part that has these is as good as the table
+module _ (t : List ℤ) (tb : Table) (l : List ℕ) (part : Part t tb l) where
+  part-atom : (p : ℕ) (w : Work) → stepAtom (programOf t tb) p w ≡ stepAtom (map (ruleAt t) l) p w
+  part-atom p w = ap (λ (s : Support). ifSettled (w .verdict) (stepDE p (w .cell p) s w) w) (sym (part-support p w t tb l part))
+
+  pub part-atoms : (m p : ℕ) (w : Work) → atomPass (programOf t tb) m p w ≡ atomPass (map (ruleAt t) l) m p w
+  part-atoms zero p w = refl
+  part-atoms (suc m) p w = ap (atomPass (programOf t tb) m (suc p)) (part-atom p w) ∙ part-atoms m (suc p) (stepAtom (map (ruleAt t) l) p w)
 
 -- ---- after a conflict
 

@@ -1,10 +1,13 @@
 -- One rule further and one pass further, as the code goes: a law for each arm. After a conflict nothing is done.
 -- Assumes nothing.
-use Prim.Native.Nat.{ℕ, zero, suc, _-_, _≤_, _<_}
+use Prim.Native.Nat.{ℕ, zero, suc, _+_, _-_, _≤_, _<_}
+use native.Mathlib.Numerals.{add-one}
+use lib.ListN.{length, getD, drop, drop-of-length-le}
+use lib.Seq.{drop-cons}
 use native.Mathlib.Omega.{arith}
 use mathlib.Core.Path.{_≡_, refl, sym, _∙_, ap, subst}
 use mathlib.Core.Bool.{Bool, true, false, cond}
-use mathlib.Core.List.{List, [], _∷_}
+use mathlib.Core.List.{List, [], _∷_, map}
 use lib.IntN.{ℤ}
 use Rattle.meaning.specs.Aggregates.{Atoms}
 use Rattle.meaning.specs.Program.{Rule, Program}
@@ -13,8 +16,7 @@ use Rattle.levels.specs.Levels.{Levels, noLevels}
 use Rattle.interpretation.specs.State.{Cell, Interpretation, setAt}
 use Rattle.interpretation.specs.View.{view, cells, valued}
 use Rattle.interpretation.specs.declared.Interpretation as code
-use Rattle.layout.specs.Layout.{pastRule, ruleAt, rulesFrom}
-use Rattle.layout.proofs.Rounds.{rules-on, rules-none}
+use Rattle.layout.specs.Layout.{ruleAt}
 use Rattle.steps.specs.Steps.{Verdict, settled, conflict, Work, set, refuted, ifSettled, stepRule, ruleReason, rulePass, pass, passes}
 use Rattle.search.specs.Engine.{noReasons}
 use Rattle.rules.specs.declared.Step.{Step}
@@ -60,12 +62,16 @@ module _ (P : Program) (X : Atoms) (r : Rule) (w : Work) (calm : w .verdict ≡ 
       ∙ ap (rulePass (reduct P X)) (step-rule r w ∙ ap (λ (v : Verdict). ifSettled v (did (demandOf (w .cell) r) (ruleReason r w) w) w) calm)
   one-rule false e = reduct-skips P X r w e
 
-module _ (X : Atoms) (t : List ℤ) (at left : ℕ) (it : code.Interpretation) (changed : Bool) (x : Work) (S : Like (rulePass (reduct (rulesFrom t at left) X) (stateOf it changed)) x) where
+-- the rules at the places l from index i on
+module _ (X : Atoms) (t : List ℤ) (l : List ℕ) (i : ℕ) (it : code.Interpretation) (changed : Bool) (x : Work) (S : Like (rulePass (reduct (map (ruleAt t) (drop i l)) X) (stateOf it changed)) x) where
   abbrev here : Rule
-  here = ruleAt t at
+  here = ruleAt t (getD l i 0)
 
   abbrev later : Program
-  later = rulesFrom t (pastRule t at) (left - 1)
+  later = map (ruleAt t) (drop (i + 1) l)
+
+  split : i < length l → map (ruleAt t) (drop i l) ≡ here ∷ later
+  split h = ap (map (ruleAt t)) (drop-cons l i 0 h ∙ ap (λ (j : ℕ). getD l i 0 ∷ drop j l) (sym (add-one i)))
 
   abbrev w : Work
   w = stateOf it changed
@@ -73,30 +79,30 @@ module _ (X : Atoms) (t : List ℤ) (at left : ℕ) (it : code.Interpretation) (
   abbrev R : Levels
   R = ruleReason here w
 
-  turned : 0 < left → (d : Step) → askedOf (body X here) (demandOf (valued (it .values)) here) ≡ d → Like (rulePass (reduct later X) (did d R w)) x
+  turned : i < length l → (d : Step) → askedOf (body X here) (demandOf (valued (it .values)) here) ≡ d → Like (rulePass (reduct later X) (did d R w)) x
   turned h d e =
       let f : askedOf (body X here) (demandOf (cells (it .values) (it .records)) here) ≡ d = ap (askedOf (body X here)) (demand-alone (it .values) (it .records) here) ∙ e in
       subst (λ (y : Work). Like y x)
-      (ap (λ (P : Program). rulePass (reduct P X) w) (rules-on t at left h) ∙ one-rule later X here w refl (body X here) refl ∙ ap (λ (s : Step). rulePass (reduct later X) (did s R w)) f)
+      (ap (λ (P : Program). rulePass (reduct P X) w) (split h) ∙ one-rule later X here w refl (body X here) refl ∙ ap (λ (s : Step). rulePass (reduct later X) (did s R w)) f)
       S
 
-  pub rules-nothing : 0 < left → askedOf (body X here) (demandOf (valued (it .values)) here) ≡ Nothing → Like (rulePass (reduct later X) w) x
+  pub rules-nothing : i < length l → askedOf (body X here) (demandOf (valued (it .values)) here) ≡ Nothing → Like (rulePass (reduct later X) w) x
   rules-nothing h e = turned h Nothing e
 
-  pub rules-refuted : 0 < left → askedOf (body X here) (demandOf (valued (it .values)) here) ≡ Conflict → Like (workOf (record { it = it; changed = changed; conflict = true })) x
+  pub rules-refuted : i < length l → askedOf (body X here) (demandOf (valued (it .values)) here) ≡ Conflict → Like (workOf (record { it = it; changed = changed; conflict = true })) x
   rules-refuted h e =
       like-then {u = refuted R w} (record { level = refl; cells = refl; same = refl; moved = refl })
       (subst (λ (y : Work). Like y x) (rules-conflict (reduct later X) R w) (turned h Conflict e))
 
-  pub rules-set : 0 < left → (p : ℕ) (v : Bool) → askedOf (body X here) (demandOf (valued (it .values)) here) ≡ Set p v → (next : code.Interpretation) → view next ≡ setAt p v (view it)
+  pub rules-set : i < length l → (p : ℕ) (v : Bool) → askedOf (body X here) (demandOf (valued (it .values)) here) ≡ Set p v → (next : code.Interpretation) → view next ≡ setAt p v (view it)
       → Like (rulePass (reduct later X) (stateOf next true)) x
   rules-set h p v e next f =
       let g : Like (stateOf next true) (set p v R w) = record { level = ap (λ (s : Interpretation). s .level) f; cells = ap (λ (s : Interpretation). s .cell) f; same = refl; moved = refl } in
       like-then (like-rules (reduct later X) g) (turned h (Set p v) e)
 
-  pub rules-over : left ≤ 0 → Like w x
+  pub rules-over : length l ≤ i → Like w x
   unfolding reduct
-  rules-over h = subst (λ (P : Program). Like (rulePass (reduct P X) w) x) (rules-none t at left h) S
+  rules-over h = subst (λ (P : Program). Like (rulePass (reduct P X) w) x) (ap (map (ruleAt t)) (drop-of-length-le l h)) S
 
 -- ---- passes
 

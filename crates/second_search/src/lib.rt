@@ -3,12 +3,14 @@
 // are kept: the plain search reads none. The candidate's values are lent. Meaning: crate `smaller`; how the code's structs are read: `specs/Looking.antt`.
 ghost use mathlib.Core.Path.{_≡_};
 ghost use mathlib.Core.Bool.{Bool, true, false};
+ghost use mathlib.Core.List.{map};
 ghost use Prim.Native.Nat.{_≤_, _<_, _-_, suc};
 ghost use lib.Dec.{ltb};
 ghost use Rattle.meaning.specs.Answers.{body, reduct};
 ghost use Rattle.interpretation.specs.State.{AllDefined, trueAtoms, lowest};
 ghost use Rattle.interpretation.specs.View.{view, valued, found};
-ghost use Rattle.layout.specs.Layout.{Laid, RuleLies, ruleAt, programOf};
+ghost use Rattle.layout.specs.Layout.{Laid, RuleLies, ruleAt};
+ghost use Rattle.heads.specs.Heads.{AllLie};
 ghost use Rattle.steps.specs.Steps.{pass, passes, begin};
 ghost use Rattle.search.specs.Search.{openedAs, jumpedAs};
 ghost use Rattle.search.specs.Engine.{noReasons};
@@ -68,15 +70,21 @@ pub fn asked(t: &[i32], tb: Table, at: usize, candidate: &[u8; 256], values: &[u
     Step::Nothing
 }
 
-// A pass: steps a to c at the reduct's rules, in table order.
-pub fn rule_steps(t: &[i32], tb: Table, candidate: &[u8; 256], mut it: Interpretation) -> Pass
-    requires { ⌜ Laid (now t) tb × AllDefined (tb .atoms) (valued (now candidate)) ⌝ }
-    ensures { λ r. ⌜ Made it r (pass (reduct (programOf (now (t .entry)) tb) (trueAtoms (tb .atoms) (valued (now (candidate .entry))))) 0 (begin (view it) noReasons)) ⌝ }
+// A pass: steps a to c at the reduct's rules, in the order of the places.
+pub fn rule_steps(
+    t: &[i32],
+    tb: Table,
+    places: &[u16],
+    candidate: &[u8; 256],
+    mut it: Interpretation,
+) -> Pass
+    requires { ⌜ Laid (now t) tb × AllLie tb (now t) (now places) × AllDefined (tb .atoms) (valued (now candidate)) ⌝ }
+    ensures { λ r. ⌜ Made it r (pass (reduct (map (ruleAt (now (t .entry))) (now (places .entry))) (trueAtoms (tb .atoms) (valued (now (candidate .entry))))) 0 (begin (view it) noReasons)) ⌝ }
 {
     let mut changed = false;
-    let mut at = tb.first;
-    let mut left = tb.rules;
-    while 0 < left {
+    let mut i: usize = 0;
+    while i < places.len() {
+        let at = places[i] as usize;
         let step = asked(t, tb, at, candidate, &it.values);
         match step {
             Step::Nothing => {}
@@ -92,8 +100,7 @@ pub fn rule_steps(t: &[i32], tb: Table, candidate: &[u8; 256], mut it: Interpret
                 changed = true;
             }
         }
-        at = layout::past_rule(t, at);
-        left -= 1;
+        i += 1;
     }
     Pass {
         it,
@@ -103,14 +110,20 @@ pub fn rule_steps(t: &[i32], tb: Table, candidate: &[u8; 256], mut it: Interpret
 }
 
 // "Passes repeat until one changes nothing or a conflict ends it": one more than there are atoms are enough.
-pub fn propagate(t: &[i32], tb: Table, candidate: &[u8; 256], mut it: Interpretation) -> Pass
-    requires { ⌜ Laid (now t) tb × AllDefined (tb .atoms) (valued (now candidate)) ⌝ }
-    ensures { λ r. ⌜ Made it r (passes (reduct (programOf (now (t .entry)) tb) (trueAtoms (tb .atoms) (valued (now (candidate .entry))))) 0 (suc (tb .atoms)) (begin (view it) noReasons)) ⌝ }
+pub fn propagate(
+    t: &[i32],
+    tb: Table,
+    places: &[u16],
+    candidate: &[u8; 256],
+    mut it: Interpretation,
+) -> Pass
+    requires { ⌜ Laid (now t) tb × AllLie tb (now t) (now places) × AllDefined (tb .atoms) (valued (now candidate)) ⌝ }
+    ensures { λ r. ⌜ Made it r (passes (reduct (map (ruleAt (now (t .entry))) (now (places .entry))) (trueAtoms (tb .atoms) (valued (now (candidate .entry))))) 0 (suc (tb .atoms)) (begin (view it) noReasons)) ⌝ }
 {
     let mut left = tb.atoms + 1;
     let mut changed = false;
     while 0 < left {
-        let made = rule_steps(t, tb, candidate, it);
+        let made = rule_steps(t, tb, places, candidate, it);
         if made.conflict {
             return made;
         }
@@ -220,16 +233,16 @@ pub fn decide(
     }
 }
 
-// The test of a candidate with so many choices left: propagate, then a smaller model is found, or a choice is opened, or it goes back one choice.
-pub fn look(t: &[i32], tb: Table, candidate: &[u8; 256], left: u32) -> Tested
-    requires { ⌜ Laid (now t) tb × AllDefined (tb .atoms) (valued (now candidate)) ⌝ }
-    ensures { λ r. ⌜ testedOf r ≡ smallerTest (programOf (now (t .entry)) tb) (tb .atoms) left (trueAtoms (tb .atoms) (valued (now (candidate .entry)))) ⌝ }
+// The test of a candidate with so many choices left, over the rules at the places: propagate, then a smaller model is found, or a choice is opened, or it goes back one choice.
+pub fn look(t: &[i32], tb: Table, places: &[u16], candidate: &[u8; 256], left: u32) -> Tested
+    requires { ⌜ Laid (now t) tb × AllLie tb (now t) (now places) × AllDefined (tb .atoms) (valued (now candidate)) ⌝ }
+    ensures { λ r. ⌜ testedOf r ≡ smallerTest (map (ruleAt (now (t .entry))) (now (places .entry))) (tb .atoms) left (trueAtoms (tb .atoms) (valued (now (candidate .entry)))) ⌝ }
 {
     let n = tb.atoms;
     let mut it = start(candidate, n);
     let mut choices: u32 = 0;
     loop {
-        let made = propagate(t, tb, candidate, it);
+        let made = propagate(t, tb, places, candidate, it);
         let now = made.it;
         it = now;
         let turn = decide(candidate, n, made.conflict, it, choices, left);
@@ -250,15 +263,15 @@ pub fn look(t: &[i32], tb: Table, candidate: &[u8; 256], left: u32) -> Tested
     }
 }
 
-// Whether a candidate has a smaller model: "The check makes the test with no limit". The same search; it counts nothing.
-pub fn has_smaller(t: &[i32], tb: Table, candidate: &[u8; 256]) -> bool
-    requires { ⌜ Laid (now t) tb × AllDefined (tb .atoms) (valued (now candidate)) ⌝ }
-    ensures { λ r. ⌜ r ≡ hasSmaller (programOf (now (t .entry)) tb) (tb .atoms) (trueAtoms (tb .atoms) (valued (now (candidate .entry)))) ⌝ }
+// Whether a candidate has a smaller model, over the rules at the places: "The check makes the test with no limit". The same search; it counts nothing.
+pub fn has_smaller(t: &[i32], tb: Table, places: &[u16], candidate: &[u8; 256]) -> bool
+    requires { ⌜ Laid (now t) tb × AllLie tb (now t) (now places) × AllDefined (tb .atoms) (valued (now candidate)) ⌝ }
+    ensures { λ r. ⌜ r ≡ hasSmaller (map (ruleAt (now (t .entry))) (now (places .entry))) (tb .atoms) (trueAtoms (tb .atoms) (valued (now (candidate .entry)))) ⌝ }
 {
     let n = tb.atoms;
     let mut it = start(candidate, n);
     loop {
-        let made = propagate(t, tb, candidate, it);
+        let made = propagate(t, tb, places, candidate, it);
         let now = made.it;
         it = now;
         let turn = decide(candidate, n, made.conflict, it, 0, 1); // one more choice is always allowed

@@ -8,6 +8,7 @@ ghost use Rattle.meaning.specs.Answers.{model};
 ghost use Rattle.interpretation.specs.State.{trueAtoms, AllDefined};
 ghost use Rattle.interpretation.specs.View.{view, valued};
 ghost use Rattle.layout.specs.Layout.{Laid, programOf};
+ghost use Rattle.heads.specs.Heads.{Whole};
 ghost use Rattle.judging.specs.declared.Buffer.the-variants.{Plan};
 ghost use Rattle.rounds.specs.Rounds.{whyOf, Recorded};
 ghost use Rattle.solver.specs.Solving.{Solving};
@@ -134,7 +135,7 @@ pub fn approve_with(
         Fault::Refused(f) => Checked::Refused(f),
         Fault::Nothing => {
             let tb = judged.table;
-            check(words, tb, cycles, plan, candidates)
+            check(words, tb, cycles, lists, plan, candidates)
         }
     }
 }
@@ -153,14 +154,16 @@ fn passes(
     words: &[i32],
     tb: Table,
     cycles: bool,
+    lists: &Lists,
     values: &[u8; 256],
     candidates: &mut Candidates,
 ) -> bool
-    requires { ⌜ Laid (now words) tb × AllDefined (tb .atoms) (valued (now values)) ⌝ }
+    requires { ⌜ Laid (now words) tb × Whole (now words) tb (now lists) × AllDefined (tb .atoms) (valued (now values)) ⌝ }
     ensures { λ r. ⌜ r ≡ passesBy cycles (programOf (now (words .entry)) tb) (tb .atoms) (trueAtoms (tb .atoms) (valued (now (values .entry)))) ⌝ }
 {
     if cycles {
-        return !second_search::has_smaller(words, tb, values);
+        let places = heads::list(lists, 0);
+        return !second_search::has_smaller(words, tb, places, values);
     }
     foundation::founded_by(words, tb, values, candidates)
 }
@@ -170,10 +173,11 @@ fn check(
     words: &[i32],
     tb: Table,
     cycles: bool,
+    lists: &Lists,
     plan: &[u8],
     candidates: &mut Candidates,
 ) -> Checked
-    requires { ⌜ Laid (now words) tb × (256 ≤ length (now plan)) ⌝ }
+    requires { ⌜ Laid (now words) tb × Whole (now words) tb (now lists) × (256 ≤ length (now plan)) ⌝ }
     ensures { λ r. ⌜ r ≡ checkedBy (badFrom (now (plan .entry)) 0 (tb .atoms)) (model (programOf (now (words .entry)) tb) (planAtoms (tb .atoms) (now (plan .entry)))) (passesBy cycles (programOf (now (words .entry)) tb) (tb .atoms) (planAtoms (tb .atoms) (now (plan .entry)))) ⌝ }
 {
     let n = tb.atoms;
@@ -183,7 +187,7 @@ fn check(
         Offer::Good => {
             let values = plans::values_of(plan, n);
             if foundation::is_model(words, tb, &values) {
-                if passes(words, tb, cycles, &values, candidates) {
+                if passes(words, tb, cycles, lists, &values, candidates) {
                     return Checked::Yes;
                 }
             }

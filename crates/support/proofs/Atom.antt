@@ -23,7 +23,7 @@ use Rattle.interpretation.specs.declared.Value.{Value}
 use Rattle.interpretation.specs.declared.Value.the-variants.{True, False, Undefined}
 use Rattle.interpretation.proofs.Laws as interpretation
 use Rattle.layout.specs.Layout.{ruleAt, RuleLies, programOf, Laid}
-use Rattle.heads.specs.Heads.{placesOf, withHead}
+use Rattle.heads.specs.Heads.{placesOf, withHead, Part}
 use Rattle.heads.proofs.Laws.{places-lie, with-lie, rules-at}
 use Rattle.layout.specs.declared.Table.{Table}
 use Rattle.valuing.specs.Values.{Lit, value}
@@ -74,6 +74,10 @@ module _ (p : ℕ) (w : Work) where
         at true e h =
             ap (λ (b : Bool). cond b (addSupport w (ruleAt t i) (witness w p (ruleAt t i)) (among (withHead t p l))) (among (withHead t p l))) e
             ∙ ap (addSupport w (ruleAt t i) (witness w p (ruleAt t i))) h
+
+    -- so a part with all that have p in the head is as good as the table
+    pub part-support : (tb : Table) (l : List ℕ) → Part t tb l → support w p (map (ruleAt t) l) ≡ support w p (programOf t tb)
+    part-support tb l h = sym (with-only l) ∙ ap among (h .heads p) ∙ with-only (placesOf t tb) ∙ ap (support w p) (rules-at t (tb .first) (tb .rules))
 
     -- none supports, or n + 1 do
     abbrev Many : Bool → Support → Type 0

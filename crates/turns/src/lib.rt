@@ -6,11 +6,13 @@ ghost use lib.Dec.{ltb};
 ghost use Rattle.levels.specs.View.{row};
 ghost use Rattle.interpretation.specs.State.{lowest, trueAtoms, AllDefined};
 ghost use Rattle.interpretation.specs.View.{choices, found, valued};
-ghost use Rattle.layout.specs.Layout.{Laid, programOf};
+ghost use Rattle.layout.specs.Layout.{Laid};
+ghost use Rattle.heads.specs.Heads.{Listed, taking};
 ghost use Rattle.smaller.specs.Cyclic.{testBy};
 ghost use Rattle.second_search.specs.Looking.{testedOf};
 ghost use Rattle.turns.specs.Turns.{turnOf, blamed, ChosenIn, backOf};
 use foundation::Candidates;
+use heads::Lists;
 use interpretation::Choice;
 use layout::Table;
 use outcome::Outcome;
@@ -54,20 +56,22 @@ pub fn lowest_undefined(values: &[u8; 256], n: usize) -> Choice
     Choice::Nothing
 }
 
-// The final test of a total interpretation, with so many choices left: foundedness, which spends none; or, where the call takes head cycles, the second search.
+// The final test of a total interpretation, with so many choices left: foundedness, which spends none; or, where the call takes head cycles, the second search over the rules of list 0. Constraints add no atom: for foundedness all rules are as good.
 pub fn test(
     t: &[i32],
     tb: Table,
     cycles: bool,
+    lists: &Lists,
     values: &[u8; 256],
     left: u32,
     candidates: &mut Candidates,
 ) -> Tested
-    requires { ⌜ Laid (now t) tb × AllDefined (tb .atoms) (valued (now values)) ⌝ }
-    ensures { λ r. ⌜ testedOf r ≡ testBy cycles (programOf (now (t .entry)) tb) (tb .atoms) left (trueAtoms (tb .atoms) (valued (now (values .entry)))) ⌝ }
+    requires { ⌜ Laid (now t) tb × Listed (now t) tb (now lists) × AllDefined (tb .atoms) (valued (now values)) ⌝ }
+    ensures { λ r. ⌜ testedOf r ≡ testBy cycles (taking (now (t .entry)) (now (lists .entry))) (tb .atoms) left (trueAtoms (tb .atoms) (valued (now (values .entry)))) ⌝ }
 {
     if cycles {
-        return second_search::look(t, tb, values, left);
+        let places = heads::list(lists, 0);
+        return second_search::look(t, tb, places, values, left);
     }
     if foundation::founded_by(t, tb, values, candidates) {
         return Tested::Passed(0);
@@ -80,14 +84,15 @@ pub fn decide(
     t: &[i32],
     tb: Table,
     cycles: bool,
+    lists: &Lists,
     out: Outcome,
     values: &[u8; 256],
     choices: u32,
     limit: u32,
     candidates: &mut Candidates,
 ) -> Turn
-    requires { ⌜ Laid (now t) tb × (choices ≤ limit) ⌝ }
-    ensures { λ r. ⌜ r ≡ turnOf (limit - choices) out (lowest (valued (now (values .entry))) (tb .atoms)) (testBy cycles (programOf (now (t .entry)) tb) (tb .atoms) (limit - choices) (trueAtoms (tb .atoms) (valued (now (values .entry))))) (ltb choices limit) ⌝ }
+    requires { ⌜ Laid (now t) tb × Listed (now t) tb (now lists) × (choices ≤ limit) ⌝ }
+    ensures { λ r. ⌜ r ≡ turnOf (limit - choices) out (lowest (valued (now (values .entry))) (tb .atoms)) (testBy cycles (taking (now (t .entry)) (now (lists .entry))) (tb .atoms) (limit - choices) (trueAtoms (tb .atoms) (valued (now (values .entry))))) (ltb choices limit) ⌝ }
 {
     match out {
         Outcome::Conflict => Turn::Conflict(0),
@@ -103,7 +108,7 @@ pub fn decide(
                 }
                 Choice::Nothing => {
                     let left = limit - choices;
-                    let tested = test(t, tb, cycles, values, left, candidates);
+                    let tested = test(t, tb, cycles, lists, values, left, candidates);
                     match tested {
                         Tested::Passed(spent) => Turn::Answer(spent),
                         Tested::Failed(spent) => Turn::Conflict(spent),

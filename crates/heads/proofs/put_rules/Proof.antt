@@ -12,7 +12,7 @@ use Rattle.heads.specs.Heads.{bounds, placesOf, Room, Put}
 use Rattle.heads.proofs.Laws.{places-lie}
 use Rattle.heads.proofs.Walks.{places-length}
 use Rattle.heads.proofs.Lists.{part-word}
-use Rattle.heads.proofs.Placing.{Placed, placed-start, placed-room, placed-on, placed-places, placed-listed}
+use Rattle.heads.proofs.Placing.{Placed, placed-start, placed-room, placed-on, placed-places, placed-whole}
 use Rattle.heads.proofs.put_rules.Statement.{statement}
 use Rattle.heads.proofs.put_rules.Tie as tie
 
@@ -134,7 +134,7 @@ returns c =
     let s = c .before .before .before .before in
     let a = s .args in
     let z : a .tb .rules - l .done ≡ 0 = omega (arith, c .if1 .left) in
-    placed-listed (a .t .now) (a .tb) (s .pre .0) (l .lists)
+    placed-whole (a .t .now) (a .tb) (s .pre .0) (l .lists)
     (subst (λ (n : ℕ). Placed (a .t .now) (a .tb) (drop n (placesOf (a .t .now) (a .tb))) (l .lists)) z (l .inv .1))
 
 pub put-rules-spec : {M : Type 1} → statement M

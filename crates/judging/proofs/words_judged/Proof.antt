@@ -46,7 +46,7 @@ fill-requires : tie.Need-fill-requires
 fill-requires c κs = (laid (c .before .before), search needs)
 
 refusal-requires : tie.Need-refusal-requires
-refusal-requires c κs = (laid (c .before .before .before .before), c .before .fill .ensures)
+refusal-requires c κs = (laid (c .before .before .before .before), c .before .fill .ensures .listed)
 
 -- the cycles of the contents are what was found
 cycles : (c : tie.After-refusal) → let y = c .before .before .before .before .before in let h = holding y in cycleBy (y .before .before .before .args .cycles) (h .0 .atoms) (program (h .0)) ≡ c .refusal .result

@@ -6,7 +6,7 @@ use native.Mathlib.Omega.{arith}
 use Rattle.levels.specs.View.{rows}
 use Rattle.interpretation.specs.State.{Interpretation}
 use Rattle.interpretation.specs.View.{view}
-use Rattle.layout.specs.Layout.{programOf}
+use Rattle.heads.specs.Heads.{taking}
 use Rattle.search.specs.Search.{State, start}
 use Rattle.smaller.specs.Cyclic.{baseBy}
 use Rattle.jumping.specs.Jumping.{Ordered}
@@ -35,7 +35,7 @@ returns c =
     let n = c .before .before .before in
     let i = n .before in
     let a = i .before .args in
-    let P = baseBy (a .cycles) (programOf (a .t .now) (a .tb)) (a .tb .atoms) in
+    let P = baseBy (a .cycles) (taking (a .t .now) (a .lists .now)) (a .tb .atoms) in
     let f : record { interpretation = view (i .start .result); reason = rows (n .no-rows .result); choices = 0; skips = 0; passes = 0; skipped = [] } ≡ start P = λ j. record { interpretation = i .start .ensures j; reason = n .no-rows .ensures j; choices = 0; skips = 0; passes = 0; skipped = [] } in
     solves-by P (a .limit) _ (r .result) f (r .ensures [])
 

@@ -7,7 +7,7 @@ use Prim.Native.Nat.{ℕ}
 use lib.ListN.{length}
 use Rattle.meaning.specs.Program.{Program}
 use Rattle.results.specs.declared.Listed.the-variants as listed
-use Rattle.layout.specs.Layout.{programOf}
+use Rattle.heads.proofs.Taking.{whole-rules}
 use Rattle.table.specs.Contents.{Contents, program}
 use Rattle.table.proofs.Accepted.{accepted-atoms}
 use Rattle.search.specs.Search.{jump}
@@ -42,7 +42,7 @@ taken c =
     judged-taken (a .words .now) (Rows (length (a .rows .now))) (j .judge-by .result) (j .judge-by .ensures .0) (c .before .enum-told .given .1)
 
 list-by-requires : tie.Need-list-by-requires
-list-by-requires c κs = let x = c .before .before .before in (taken x .2 .laid, x .before .before .before .judge-by .ensures .1 (x .before .enum-told .given .1))
+list-by-requires c κs = let x = c .before .before .before in (taken x .2 .laid, x .before .before .before .judge-by .ensures .1 (x .before .enum-told .given .1) .listed)
 
 result-requires : tie.Need-result-requires
 result-requires c κs = search needs
@@ -71,8 +71,8 @@ returns-2 c =
     let g = l .list-by .ensures in
     let o = g .outcome in
     let e : listAll (base (program d) (d .atoms)) jump (a .ask .limit) (rooms (a .rows .now)) ≡ some o =
-    ap (λ (P : Program). listAll (base P (d .atoms)) jump (a .ask .limit) (rooms (a .rows .now))) (sym (p .rules))
-    ∙ ap (λ (n : ℕ). listAll (base (programOf (a .words .now) tb) n) jump (a .ask .limit) (rooms (a .rows .now))) (sym (p .atoms)) ∙ g .listed in
+    ap (λ (n : ℕ). listAll (base (program d) n) jump (a .ask .limit) (rooms (a .rows .now))) (sym (p .atoms))
+    ∙ ap (λ (P : Program). listAll (base P (tb .atoms)) jump (a .ask .limit) (rooms (a .rows .now))) (sym (whole-rules (a .words .now) tb _ (j .judge-by .ensures .1 (b .before .enum-told .given .1)) ∙ p .rules)) ∙ g .listed in
     listing-accepted (a .words .now) (a .ask) (a .rows .now) (l .list-by .last .1 .1 .1 .1 .1 .0) d (x .1) (accepted-atoms (a .words .now) d (x .1 .holds)) (ranges (a .words .now) d (x .1 .holds) .fewAtoms) o e
     (c .result .result) (c .result .ensures ∙ ap resultOf (g .result) ∙ told-by o) (g .rows)
 

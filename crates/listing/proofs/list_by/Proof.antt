@@ -14,7 +14,7 @@ use Rattle.levels.proofs.Laws.{rows-set}
 use Rattle.levels.specs.View.{row, rows}
 use Rattle.interpretation.specs.State.{Interpretation, trueAtoms, jumped}
 use Rattle.interpretation.specs.View.{view}
-use Rattle.layout.specs.Layout.{programOf}
+use Rattle.heads.specs.Heads.{taking}
 use Rattle.outcome.specs.declared.Halt.{Halt}
 use Rattle.outcome.specs.declared.Start.{Start}
 use Rattle.outcome.specs.declared.Ending.{Ending}
@@ -36,7 +36,7 @@ use Rattle.listing.proofs.list_by.Tie as tie
 abbrev Inv-loop : tie.InvT-loop
 Inv-loop t tb cycles lists limit rows₀ candidates₀ room n from₀ reasons₀ number₀ rows candidates from reasons number =
     Ready (tb .atoms) limit from × (number ≤ length rows₀ / 256) × (length rows ≡ length rows₀)
-    × Done (baseBy cycles (programOf t tb) (tb .atoms)) limit (length rows₀ / 256) rows₀ rows from reasons number
+    × Done (baseBy cycles (taking t lists) (tb .atoms)) limit (length rows₀ / 256) rows₀ rows from reasons number
 
 abbrev μ-loop : tie.MeasureT-loop
 μ-loop t tb cycles lists limit rows₀ candidates₀ room n from₀ reasons₀ number₀ rows candidates from reasons number = (limit - from .choices) * suc (tb .atoms) + from .it .depth
@@ -47,7 +47,7 @@ abbrev begun : tie.At-loop Inv-loop μ-loop → tie.Start Inv-loop μ-loop
 begun b = b .before .before .before .before
 
 abbrev P : tie.At-loop Inv-loop μ-loop → Problem
-P b = let a = begun b .args in baseBy (a .cycles) (programOf (a .t .now) (a .tb)) (a .tb .atoms)
+P b = let a = begun b .args in baseBy (a .cycles) (taking (a .t .now) (a .lists .now)) (a .tb .atoms)
 
 abbrev lim : tie.At-loop Inv-loop μ-loop → ℕ
 lim b = begun b .args .limit
@@ -77,7 +77,7 @@ loop-holds c =
     let z = g .1 in
     let y = g .2 in
     let d : s .it .depth ≡ 0 = ap (λ (x : Interpretation). x .level) e in
-    let Q = baseBy (a .cycles) (programOf (a .t .now) (a .tb)) (a .tb .atoms) in
+    let Q = baseBy (a .cycles) (taking (a .t .now) (a .lists .now)) (a .tb .atoms) in
     let f : record { interpretation = view (s .it); reason = rows (c .no-rows .result); choices = s .choices; skips = s .skips; passes = s .passes; skipped = [] } ≡ start Q =
     λ j. record { interpretation = e j; reason = c .no-rows .ensures j; choices = z j; skips = y j; passes = g .3 j; skipped = [] } in (
       record { ordered = subst (Ordered (a .tb .atoms)) (sym e) (ordered-start (a .tb .atoms)); paid = omega (arith, d, z, y); few = omega (arith, z) },
@@ -248,7 +248,7 @@ returns-4 c =
     let b = loopAt e in
     let a = begun b .args in
     let h = handed e in
-    listed-end (a .cycles) (programOf (a .t .now) (a .tb)) (n b) (lim b) (room b) (old b) (b .loop .rows) (rowsNow v) (b .loop .from) (b .loop .reasons) (b .loop .number) (b .loop .inv .3) h (searched (e .before .before .before .before))
+    listed-end (a .cycles) (taking (a .t .now) (a .lists .now)) (n b) (lim b) (room b) (old b) (b .loop .rows) (rowsNow v) (b .loop .from) (b .loop .reasons) (b .loop .number) (b .loop .inv .3) h (searched (e .before .before .before .before))
     (e .before .enum-told3 .given .1) (fits e .0) (wrote v) (back-ended (view (h .found .it) .choice) (h .found .it .depth) (d .enum-told4 .given .0 .0) (sym (v .after-plan .ensures) ∙ d .enum-told4 .given .1))
     (c .report4 .result) (c .report4 .ensures)
 
@@ -356,9 +356,9 @@ gone c =
     ∙ ap (λ (r : List (List ℕ)). putRow (view i .choice (suc j)) (without (suc j) (upTo (suc j))) (rows r)) (c .before .before .before .rows-of .ensures) in
     let z : view (c .jump .result) ≡ jumped j (view i) = c .jump .ensures ∙ ap (λ (m : ℕ). jumped (m - 1) (view i)) (t .0) in
     let from : Start = record { it = c .jump .result; choices = h .found .choices; skips = h .found .skips; passes = h .found .passes } in
-    let F = goes-on (a .cycles) (programOf (a .t .now) (a .tb)) (n b) (lim b) (room b) (old b) (b .loop .rows) (rowsNow v) (b .loop .from) (b .loop .reasons) (b .loop .number) (b .loop .inv .3) h (searched (e .before .before .before .before))
+    let F = goes-on (a .cycles) (taking (a .t .now) (a .lists .now)) (n b) (lim b) (room b) (old b) (b .loop .rows) (rowsNow v) (b .loop .from) (b .loop .reasons) (b .loop .number) (b .loop .inv .3) h (searched (e .before .before .before .before))
     (e .before .enum-told3 .given .1) (fits e .0) (wrote v) j (sym sj) from (set R (q .back .given .0 .1 .0 - 1) (c .before .without .result)) z y refl refl refl in
-    let G = falls (a .cycles) (programOf (a .t .now) (a .tb)) (n b) (lim b) (room b) (old b) (b .loop .rows) (rowsNow v) (b .loop .from) (b .loop .reasons) (b .loop .number) (b .loop .inv .3) h (searched (e .before .before .before .before))
+    let G = falls (a .cycles) (taking (a .t .now) (a .lists .now)) (n b) (lim b) (room b) (old b) (b .loop .rows) (rowsNow v) (b .loop .from) (b .loop .reasons) (b .loop .number) (b .loop .inv .3) h (searched (e .before .before .before .before))
     (e .before .enum-told3 .given .1) (fits e .0) (wrote v) j (sym sj) from (set R (q .back .given .0 .1 .0 - 1) (c .before .without .result)) z y refl refl refl in
     (F, G)
 

@@ -9,7 +9,7 @@ use lib.ListN.{length, take}
 use lib.Seq.{length-take-le}
 use Rattle.meaning.specs.Program.{Program}
 use Rattle.results.specs.Results.{numberOf, placeOf}
-use Rattle.layout.specs.Layout.{programOf}
+use Rattle.heads.proofs.Taking.{whole-rules}
 use Rattle.table.specs.Contents.{Contents, program}
 use Rattle.table.proofs.Accepted.{accepted-atoms}
 use Rattle.search.specs.Search.{jump, solve}
@@ -72,7 +72,7 @@ search-requires : tie.Need-search-requires
 search-requires c κs =
     let x = c .before .before in
     let j = x .before .before .before in
-    (taken x .2 .laid, j .judge-by .ensures .1 (x .before .enum-told .given .1), j .before .before .before .before .before .pre)
+    (taken x .2 .laid, j .judge-by .ensures .1 (x .before .enum-told .given .1) .listed, j .before .before .before .before .before .pre)
 
 report-requires : tie.Need-report-requires
 report-requires c κs =
@@ -125,8 +125,8 @@ returns-2 c =
     let g = s .search .ensures in
     let o = endOf (tb .atoms) (s .search .result) (g .0) in
     let e : solve (pinned (program d) (d .atoms) (pinsOf (takenOf (d .atoms) pins))) jump (a .limit) ≡ _ =
-    ap (λ (P : Program). solve (pinned P (d .atoms) (pinsOf (takenOf (d .atoms) pins))) jump (a .limit)) (sym (p .rules))
-    ∙ ap (λ (m : ℕ). solve (pinned (programOf t tb) m (pinsOf (takenOf m pins))) jump (a .limit)) (sym (p .atoms)) ∙ g .1 in
+    ap (λ (m : ℕ). solve (pinned (program d) m (pinsOf (takenOf m pins))) jump (a .limit)) (sym (p .atoms))
+    ∙ ap (λ (P : Program). solve (pinned P (tb .atoms) (pinsOf (takenOf (tb .atoms) pins))) jump (a .limit)) (sym (whole-rules t tb _ (j .judge-by .ensures .1 (b .before .enum-told .given .1)) ∙ p .rules)) ∙ g .1 in
     let z = planning-accepted (tableIn (a .s .now)) pins (a .limit) (a .plan .now) new q d h o e (r .report .ensures .0)
     (r .report .ensures .1 ∙ ap (λ (m : ℕ). planAfter m (o .result) (a .plan .now)) (p .atoms)) in
     let w = subst (Recorded (c .whys-for .result))

@@ -39,7 +39,7 @@ taken c =
 
 -- its rules by head
 listed : (c : tie.After-tb) → let j = c .before .before .before in Listed (j .before .before .before .args .words .now) (j .judge-by .result .table) (j .judge-by .last .1 .1 .0)
-listed c = c .before .before .before .judge-by .ensures .1 (c .before .enum-told .given .1)
+listed c = c .before .before .before .judge-by .ensures .1 (c .before .enum-told .given .1) .listed
 
 propagate-requires : tie.Need-propagate-requires
 propagate-requires c κs = (taken (c .before) .2 .laid, listed (c .before), refl)

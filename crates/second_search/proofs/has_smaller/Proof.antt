@@ -5,14 +5,15 @@ use Prim.Native.Nat.{ℕ, suc, _+_, _-_, _*_, _^_, _≤_, _<_}
 use native.Mathlib.Omega.{arith}
 use mathlib.Core.Path.{_≡_, refl, sym, ap, _∙_, subst}
 use mathlib.Core.Bool.{Bool, true, false}
+use mathlib.Core.List.{map}
 use mathlib.Core.Option.{some}
 use lib.Dec.{ltb}
 use Rattle.meaning.specs.Aggregates.{Atoms}
 use Rattle.meaning.specs.Program.{Program, AtomsIn}
 use Rattle.interpretation.specs.State.{Interpretation, lowest, trueAtoms}
 use Rattle.interpretation.specs.View.{view, valued}
-use Rattle.layout.specs.Layout.{programOf}
-use Rattle.layout.proofs.Inside.{atoms-in}
+use Rattle.layout.specs.Layout.{ruleAt}
+use Rattle.heads.proofs.Taking.{part-in}
 use Rattle.search.specs.Search.{Problem, State, plain, go, propagated, turn, openedAs, jumpedAs}
 use Rattle.search.proofs.Parts.{lowest-some}
 use Rattle.search.proofs.Unlimited.{Room}
@@ -28,22 +29,22 @@ use Rattle.second_search.proofs.has_smaller.Statement.{statement}
 use Rattle.second_search.proofs.has_smaller.Tie as tie
 
 abbrev Inv-loop : tie.InvT-loop
-Inv-loop t tb candidate n it₀ it =
-    Ordered (tb .atoms) (view it) × ((A : AtomsIn (tb .atoms) (programOf t tb)) × Stands (tb .atoms) (programOf t tb) A (trueAtoms (tb .atoms) (valued candidate)) (view it))
+Inv-loop t tb places candidate n it₀ it =
+    Ordered (tb .atoms) (view it) × ((A : AtomsIn (tb .atoms) (map (ruleAt t) places)) × Stands (tb .atoms) (map (ruleAt t) places) A (trueAtoms (tb .atoms) (valued candidate)) (view it))
 
 abbrev μ-loop : tie.MeasureT-loop
-μ-loop t tb candidate n it₀ it = Room (tb .atoms) true (view it) * 2 + it .depth
+μ-loop t tb places candidate n it₀ it = Room (tb .atoms) true (view it) * 2 + it .depth
 
 -- ---- names for a turn
 
 abbrev X : tie.At-loop Inv-loop μ-loop → Atoms
-X b = let a = b .before .before .args in trueAtoms (a .tb .atoms) (valued (a .candidate .now))
+X b = let a = b .before .before .before .args in trueAtoms (a .tb .atoms) (valued (a .candidate .now))
 
 abbrev Q : tie.At-loop Inv-loop μ-loop → Program
-Q b = let a = b .before .before .args in programOf (a .t .now) (a .tb)
+Q b = let a = b .before .before .before .args in map (ruleAt (a .t .now)) (a .places .now)
 
 abbrev n : tie.At-loop Inv-loop μ-loop → ℕ
-n b = b .before .before .args .tb .atoms
+n b = b .before .before .before .args .tb .atoms
 
 abbrev P : tie.At-loop Inv-loop μ-loop → Problem
 P b = second (Q b) (n b) (X b)
@@ -61,22 +62,22 @@ abbrev after : tie.At-loop Inv-loop μ-loop → State
 after b = propagated (P b) (here b)
 
 start-requires : tie.Need-start-requires Inv-loop μ-loop
-start-requires c κs = c .pre .0 .fewAtoms
+start-requires c κs = c .before .pre .0 .fewAtoms
 
 loop-holds : tie.Need-loop-holds Inv-loop μ-loop
 loop-holds c =
-    let s = c .before in
+    let s = c .before .before in
     let a = s .args in
     let Y = trueAtoms (a .tb .atoms) (valued (a .candidate .now)) in
-    let B = atoms-in (a .t .now) (a .tb) (s .pre .0) in
+    let B = part-in (a .t .now) (a .tb) (s .pre .0) (a .places .now) (s .pre .1) in
     let e = c .start .ensures in
-    (subst (Ordered (a .tb .atoms)) (sym e) (ordered-start (a .tb .atoms) Y), (B, stands-start (a .tb .atoms) (programOf (a .t .now) (a .tb)) B Y (view (c .start .result)) (sym e)))
+    (subst (Ordered (a .tb .atoms)) (sym e) (ordered-start (a .tb .atoms) Y), (B, stands-start (a .tb .atoms) (map (ruleAt (a .t .now)) (a .places .now)) B Y (view (c .start .result)) (sym e)))
 
 propagate-requires : tie.Need-propagate-requires Inv-loop μ-loop
-propagate-requires c κs = c .before .before .pre
+propagate-requires c κs = c .before .before .before .pre
 
 decide-requires : tie.Need-decide-requires Inv-loop μ-loop
-decide-requires c κs = c .before .before .before .before .pre .0 .fewAtoms
+decide-requires c κs = c .before .before .before .before .before .pre .0 .fewAtoms
 
 -- ---- after propagation
 
@@ -150,7 +151,7 @@ opened-requires c κs =
     let l = h .0 in
     let m = h .1 in
     let f = h .2 in
-    let w = b .before .before .pre .0 .fewAtoms in
+    let w = b .before .before .before .pre .0 .fewAtoms in
     (l, omega arith, omega arith)
 
 level-next : (c : tie.After-opened Inv-loop μ-loop) → chosen (c .before .before) .0 .interpretation ≡ view (c .opened .result)
@@ -208,7 +209,7 @@ flipped-requires c κs =
     let t0 = t .0 in
     let t1 = t .1 in
     let l = level-in (n b) s (ordered q) in
-    let w = b .before .before .pre .0 .fewAtoms in
+    let w = b .before .before .before .pre .0 .fewAtoms in
     (h, omega arith, omega arith, omega arith)
 
 -- the state after it

@@ -8,14 +8,15 @@ use native.Mathlib.Omega.{arith}
 use native.Mathlib.Numerals.{add-one}
 use mathlib.Core.Path.{_≡_, refl, sym, ap, _∙_, subst}
 use mathlib.Core.Bool.{Bool, true, false}
+use mathlib.Core.List.{map}
 use mathlib.Core.Option.{some}
 use lib.Dec.{ltb}
 use Rattle.meaning.specs.Aggregates.{Atoms}
 use Rattle.meaning.specs.Program.{Program}
 use Rattle.interpretation.specs.State.{Interpretation, lowest, trueAtoms}
 use Rattle.interpretation.specs.View.{view, valued}
-use Rattle.layout.specs.Layout.{programOf}
-use Rattle.layout.proofs.Inside.{atoms-in}
+use Rattle.layout.specs.Layout.{ruleAt}
+use Rattle.heads.proofs.Taking.{part-in}
 use Rattle.search.specs.Search.{Problem, Tested, passed, failed, exhausted, State, Outcome, Result, plain, answer, noAnswer, limit, Next, go, end, goBackBy, propagated, turn, start, openedAs, jumpedAs}
 use Rattle.search.specs.Second.{secondBy, secondVerdict}
 use Rattle.search.proofs.Fuel.{turn-less}
@@ -39,28 +40,28 @@ pub record Stands (P : Problem) (lim : ℕ) (s : Interpretation) (k : ℕ) : Typ
   pub ends : (o : Outcome) → Ends P plain lim state o → Ends P plain lim (start P) o
 
 abbrev Inv-loop : tie.InvT-loop
-Inv-loop t tb candidate left n it₀ choices₀ it choices =
-    Ordered (tb .atoms) (view it) × (choices ≤ left) × Stands (second (programOf t tb) (tb .atoms) (trueAtoms (tb .atoms) (valued candidate))) left (view it) choices
+Inv-loop t tb places candidate left n it₀ choices₀ it choices =
+    Ordered (tb .atoms) (view it) × (choices ≤ left) × Stands (second (map (ruleAt t) places) (tb .atoms) (trueAtoms (tb .atoms) (valued candidate))) left (view it) choices
 
 abbrev μ-loop : tie.MeasureT-loop
-μ-loop t tb candidate left n it₀ choices₀ it choices = (left - choices) * suc (tb .atoms) + it .depth
+μ-loop t tb places candidate left n it₀ choices₀ it choices = (left - choices) * suc (tb .atoms) + it .depth
 
 -- ---- names for a turn
 
 abbrev X : tie.At-loop Inv-loop μ-loop → Atoms
-X b = let a = b .before .before .args in trueAtoms (a .tb .atoms) (valued (a .candidate .now))
+X b = let a = b .before .before .before .args in trueAtoms (a .tb .atoms) (valued (a .candidate .now))
 
 abbrev Q : tie.At-loop Inv-loop μ-loop → Program
-Q b = let a = b .before .before .args in programOf (a .t .now) (a .tb)
+Q b = let a = b .before .before .before .args in map (ruleAt (a .t .now)) (a .places .now)
 
 abbrev n : tie.At-loop Inv-loop μ-loop → ℕ
-n b = b .before .before .args .tb .atoms
+n b = b .before .before .before .args .tb .atoms
 
 abbrev P : tie.At-loop Inv-loop μ-loop → Problem
 P b = second (Q b) (n b) (X b)
 
 abbrev left : tie.At-loop Inv-loop μ-loop → ℕ
-left b = b .before .before .args .left
+left b = b .before .before .before .args .left
 
 abbrev here : tie.At-loop Inv-loop μ-loop → State
 here b = b .loop .inv .2 .state
@@ -69,23 +70,23 @@ abbrev after : tie.At-loop Inv-loop μ-loop → State
 after b = propagated (P b) (here b)
 
 start-requires : tie.Need-start-requires Inv-loop μ-loop
-start-requires c κs = c .pre .0 .fewAtoms
+start-requires c κs = c .before .pre .0 .fewAtoms
 
 loop-holds : tie.Need-loop-holds Inv-loop μ-loop
 loop-holds c =
-    let a = c .before .args in
+    let a = c .before .before .args in
     let Y = trueAtoms (a .tb .atoms) (valued (a .candidate .now)) in
     let e = c .start .ensures in (
       subst (Ordered (a .tb .atoms)) (sym e) (ordered-start (a .tb .atoms) Y),
       omega arith,
-      record { state = start (second (programOf (a .t .now) (a .tb)) (a .tb .atoms) Y); same = sym e; count = refl; ends = λ o x. x },
+      record { state = start (second (map (ruleAt (a .t .now)) (a .places .now)) (a .tb .atoms) Y); same = sym e; count = refl; ends = λ o x. x },
     )
 
 propagate-requires : tie.Need-propagate-requires Inv-loop μ-loop
-propagate-requires c κs = c .before .before .pre
+propagate-requires c κs = c .before .before .before .pre
 
 decide-requires : tie.Need-decide-requires Inv-loop μ-loop
-decide-requires c κs = c .before .before .before .before .pre .0 .fewAtoms
+decide-requires c κs = c .before .before .before .before .before .pre .0 .fewAtoms
 
 -- ---- after propagation
 
@@ -96,9 +97,9 @@ same p = let b = p .before in after-is (Q b) (n b) (left b) (X b) (b .loop .it) 
 ordered : (p : tie.After-propagate Inv-loop μ-loop) → let b = p .before in Ordered (n b) (view (p .propagate .result .it))
 ordered p =
     let b = p .before in
-    let s = b .before .before in
+    let s = b .before .before .before in
     subst (Ordered (n b)) (same p)
-    (ordered-propagated (SmallerIn (n b) (Q b) (X b)) (P b) (second-laws (n b) (Q b) (atoms-in (s .args .t .now) (s .args .tb) (s .pre .0)) (X b)) (n b) (here b .interpretation) (here b .reason)
+    (ordered-propagated (SmallerIn (n b) (Q b) (X b)) (P b) (second-laws (n b) (Q b) (part-in (s .args .t .now) (s .args .tb) (s .pre .0) (s .args .places .now) (s .pre .1)) (X b)) (n b) (here b .interpretation) (here b .reason)
     (subst (Ordered (n b)) (sym (b .loop .inv .2 .same)) (b .loop .inv .0)))
 
 -- the turn, by what was decided
@@ -169,11 +170,11 @@ opened-requires c κs =
     let l = h .0 in
     let m = h .1 in
     let f = h .2 in
-    let w = b .before .before .pre .0 .fewAtoms in
+    let w = b .before .before .before .pre .0 .fewAtoms in
     (l, omega arith, omega arith)
 
 add-choices : tie.Need-add-choices Inv-loop μ-loop
-add-choices c = let t = c .before .before in let b = t .before .before .before .before .before in let h = picked t .4 in let f = b .before .before .fits .left in omega arith
+add-choices c = let t = c .before .before in let b = t .before .before .before .before .before in let h = picked t .4 in let f = b .before .before .before .fits .left in omega arith
 
 -- the state after it
 abbrev next : tie.After-turn Inv-loop μ-loop → State
@@ -248,7 +249,7 @@ flipped-requires c κs =
     let t0 = t .0 in
     let t1 = t .1 in
     let l = level-in (n b) s (ordered q) in
-    let w = b .before .before .pre .0 .fewAtoms in
+    let w = b .before .before .before .pre .0 .fewAtoms in
     (h, omega arith, omega arith, omega arith)
 
 -- the state after it

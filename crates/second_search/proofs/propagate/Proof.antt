@@ -7,12 +7,13 @@ use native.Mathlib.Omega.{arith}
 use native.Mathlib.Numerals.{add-one}
 use mathlib.Core.Path.{_≡_, refl, sym, ap, _∙_, subst}
 use mathlib.Core.Bool.{Bool, true, false}
+use mathlib.Core.List.{map}
 use Rattle.meaning.specs.Aggregates.{Atoms}
 use Rattle.meaning.specs.Program.{Program}
 use Rattle.meaning.specs.Answers.{reduct}
 use Rattle.interpretation.specs.State.{trueAtoms}
 use Rattle.interpretation.specs.View.{view, valued}
-use Rattle.layout.specs.Layout.{programOf}
+use Rattle.layout.specs.Layout.{ruleAt}
 use Rattle.steps.specs.Steps.{Work, passes, begin}
 use Rattle.search.specs.Engine.{noReasons}
 use Rattle.second_search.specs.Looking.{Like, workOf, Kept, Made}
@@ -23,24 +24,24 @@ use Rattle.second_search.proofs.propagate.Statement.{statement}
 use Rattle.second_search.proofs.propagate.Tie as tie
 
 abbrev Inv-loop : tie.InvT-loop
-Inv-loop t tb candidate it₀ left₀ changed₀ it left changed =
-    Like (passes (reduct (programOf t tb) (trueAtoms (tb .atoms) (valued candidate))) 0 left (stateOf it changed))
-    (passes (reduct (programOf t tb) (trueAtoms (tb .atoms) (valued candidate))) 0 (suc (tb .atoms)) (begin (view it₀) noReasons))
+Inv-loop t tb places candidate it₀ left₀ changed₀ it left changed =
+    Like (passes (reduct (map (ruleAt t) places) (trueAtoms (tb .atoms) (valued candidate))) 0 left (stateOf it changed))
+    (passes (reduct (map (ruleAt t) places) (trueAtoms (tb .atoms) (valued candidate))) 0 (suc (tb .atoms)) (begin (view it₀) noReasons))
     × Kept it₀ it
 
 abbrev μ-loop : tie.MeasureT-loop
-μ-loop t tb candidate it₀ left₀ changed₀ it left changed = left
+μ-loop t tb places candidate it₀ left₀ changed₀ it left changed = left
 
 abbrev R : tie.At-loop Inv-loop μ-loop → Program
-R b = let a = b .before .before .args in reduct (programOf (a .t .now) (a .tb)) (trueAtoms (a .tb .atoms) (valued (a .candidate .now)))
+R b = let a = b .before .before .before .args in reduct (map (ruleAt (a .t .now)) (a .places .now)) (trueAtoms (a .tb .atoms) (valued (a .candidate .now)))
 
 add-left : tie.Need-add-left Inv-loop μ-loop
-add-left c = let h = c .before .pre .0 .fewAtoms in omega arith
+add-left c = let h = c .before .before .pre .0 .fewAtoms in omega arith
 
 loop-holds : tie.Need-loop-holds Inv-loop μ-loop
 loop-holds c =
-    let a = c .before .args in
-    let P = reduct (programOf (a .t .now) (a .tb)) (trueAtoms (a .tb .atoms) (valued (a .candidate .now))) in
+    let a = c .before .before .args in
+    let P = reduct (map (ruleAt (a .t .now)) (a .places .now)) (trueAtoms (a .tb .atoms) (valued (a .candidate .now))) in
     let w = begin (view (a .it)) noReasons in
     let n = a .tb .atoms in (
       subst (λ (k : ℕ). Like (passes P 0 k w) (passes P 0 (suc n) w)) (sym (add-one n)) (like-refl (passes P 0 (suc n) w)),
@@ -48,11 +49,11 @@ loop-holds c =
     )
 
 rule-steps-requires : tie.Need-rule-steps-requires Inv-loop μ-loop
-rule-steps-requires c κs = c .before .before .before .pre
+rule-steps-requires c κs = c .before .before .before .before .pre
 
 -- the passes end with the last one
-made : (b : tie.At-loop Inv-loop μ-loop) (s : Pass) → Kept (b .loop .it) (s .it) → {w : Work} → Like (workOf s) w → Made (b .before .before .args .it) s w
-made b s k l = record { like = l; kept = kept-then (b .before .before .args .it) (b .loop .it) (s .it) (b .loop .inv .1) k }
+made : (b : tie.At-loop Inv-loop μ-loop) (s : Pass) → Kept (b .loop .it) (s .it) → {w : Work} → Like (workOf s) w → Made (b .before .before .before .args .it) s w
+made b s k l = record { like = l; kept = kept-then (b .before .before .before .args .it) (b .loop .it) (s .it) (b .loop .inv .1) k }
 
 returns : tie.Need-returns Inv-loop μ-loop
 returns c =
@@ -79,7 +80,7 @@ loop-again c =
     let r = e .before in
     let b = r .before .before in (
       pass-again (R b) (b .loop .left) (stateOf (b .loop .it) (b .loop .changed)) _ (r .before .loop-test .taken) (b .loop .inv .0) (r .rule-steps .result) (r .rule-steps .ensures .like) (e .if1 .left) (not-false _ (x .if2 .left)),
-      kept-then (b .before .before .args .it) (b .loop .it) (r .rule-steps .result .it) (b .loop .inv .1) (r .rule-steps .ensures .kept),
+      kept-then (b .before .before .before .args .it) (b .loop .it) (r .rule-steps .result .it) (b .loop .inv .1) (r .rule-steps .ensures .kept),
     )
 
 returns-3 : tie.Need-returns-3 Inv-loop μ-loop

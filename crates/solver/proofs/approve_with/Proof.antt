@@ -39,7 +39,10 @@ taken c =
     judged-taken (a .words .now) (Plan (length (a .plan .now))) (j .judge-in .result) (j .judge-in .ensures .0) (c .before .enum-told .given .1)
 
 check-requires : tie.Need-check-requires
-check-requires c κs = let x = taken (c .before) in (x .2 .laid, plan-wide _ (x .1 .buffer))
+check-requires c κs =
+    let b = c .before .before in
+    let x = taken b in
+    (x .2 .laid, b .before .before .before .judge-in .ensures .1 (b .before .enum-told .given .1), plan-wide _ (x .1 .buffer))
 
 returns : tie.Need-returns
 returns c =
@@ -51,10 +54,10 @@ returns c =
 
 returns-2 : tie.Need-returns-2
 returns-2 c =
-    let j = c .before .before .before .before .before in
+    let j = c .before .before .before .before .before .before in
     let a = j .before .before .before .args in
     let tb = j .judge-in .result .table in
-    let x = taken (c .before .before) in
+    let x = taken (c .before .before .before) in
     let d = x .0 in
     let p = x .2 in
     approving-accepted (a .cycles) (a .words .now) (a .plan .now) d (x .1) (accepted-atoms (a .words .now) d (x .1 .holds)) (c .check .result)

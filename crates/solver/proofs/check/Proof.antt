@@ -16,7 +16,7 @@ use Rattle.solver.proofs.check.Statement.{statement}
 use Rattle.solver.proofs.check.Tie as tie
 
 first-bad-requires : tie.Need-first-bad-requires
-first-bad-requires c κs = let h = c .before .pre .0 .fewAtoms in let k = c .before .pre .1 in omega arith
+first-bad-requires c κs = let h = c .before .pre .0 .fewAtoms in let k = c .before .pre .2 in omega arith
 
 enum-known-offer : tie.Need-enum-known-offer
 enum-known-offer c = search needs
@@ -28,14 +28,17 @@ values-of-requires : tie.Need-values-of-requires
 values-of-requires c κs =
     let s = c .before .before .before .before in
     let h = s .pre .0 .fewAtoms in
-    let k = s .pre .1 in
+    let k = s .pre .2 in
     (h, omega arith)
 
 is-model-requires : tie.Need-is-model-requires
 is-model-requires c κs = let v = c .before in (v .before .before .before .before .before .pre .0, v .values-of .ensures .whole)
 
 passes-requires : tie.Need-passes-requires
-passes-requires c κs = let v = c .before .before .before .before .before in (v .before .before .before .before .before .pre .0, v .values-of .ensures .whole)
+passes-requires c κs =
+    let v = c .before .before .before .before .before in
+    let s = v .before .before .before .before .before in
+    (s .pre .0, s .pre .1, v .values-of .ensures .whole)
 
 -- the first bad byte, as it was found
 offered : (c : tie.After-first-bad) → let s = c .before .before in badFrom (s .args .plan .now) 0 (s .args .tb .atoms) ≡ c .first-bad .result

@@ -10,6 +10,7 @@ use Rattle.meaning.specs.Program.{Program}
 use Rattle.meaning.specs.Answers.{AnswerSet}
 use Rattle.results.specs.declared.Solved.the-variants as solved
 use Rattle.layout.specs.Layout.{programOf}
+use Rattle.heads.proofs.Taking.{whole-rules}
 use Rattle.table.specs.Contents.{Contents, program}
 use Rattle.table.proofs.Accepted.{accepted-atoms}
 use Rattle.search.specs.Search.{jump, solve}
@@ -47,7 +48,7 @@ taken c =
     judged-taken (a .words .now) (Plan (length (a .plan .now))) (j .judge-in .result) (j .judge-in .ensures .0) (c .before .enum-told .given .1)
 
 search-requires : tie.Need-search-requires
-search-requires c κs = let x = c .before .before in (taken x .2 .laid, x .before .before .before .judge-in .ensures .1 (x .before .enum-told .given .1))
+search-requires c κs = let x = c .before .before in (taken x .2 .laid, x .before .before .before .judge-in .ensures .1 (x .before .enum-told .given .1) .listed)
 
 report-requires : tie.Need-report-requires
 report-requires c κs =
@@ -96,8 +97,8 @@ returns-2 c =
     let new = r .report .last .1 .1 .0 in
     let g = s .search .ensures in
     let o = endOf (tb .atoms) (s .search .result) (g .0) in
-    let e : solve (baseBy (a .ask .cycles) (program d) (d .atoms)) jump (a .ask .limit) ≡ _ = ap (λ (P : Program). solve (baseBy (a .ask .cycles) P (d .atoms)) jump (a .ask .limit)) (sym (p .rules))
-    ∙ ap (λ (n : ℕ). solve (baseBy (a .ask .cycles) (programOf (a .words .now) tb) n) jump (a .ask .limit)) (sym (p .atoms)) ∙ g .1 in
+    let e : solve (baseBy (a .ask .cycles) (program d) (d .atoms)) jump (a .ask .limit) ≡ _ = ap (λ (n : ℕ). solve (baseBy (a .ask .cycles) (program d) n) jump (a .ask .limit)) (sym (p .atoms))
+    ∙ ap (λ (P : Program). solve (baseBy (a .ask .cycles) P (tb .atoms)) jump (a .ask .limit)) (sym (whole-rules (a .words .now) tb _ (j .judge-in .ensures .1 (b .before .enum-told .given .1)) ∙ p .rules)) ∙ g .1 in
     let z = solving-accepted (a .words .now) (a .ask) (a .plan .now) new q d (x .1) A o e (r .report .ensures .0)
     (r .report .ensures .1 ∙ ap (λ (n : ℕ). planAfter n (o .result) (a .plan .now)) (p .atoms)) in
     let w = subst (Recorded (c .whys-by .result))

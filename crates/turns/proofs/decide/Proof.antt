@@ -8,7 +8,7 @@ use Prim.Native.Nat.{ℕ, _-_}
 use lib.Dec.{ltb}
 use Rattle.interpretation.specs.State.{lowest, trueAtoms}
 use Rattle.interpretation.specs.View.{valued, found}
-use Rattle.layout.specs.Layout.{programOf}
+use Rattle.heads.specs.Heads.{taking}
 use Rattle.outcome.specs.declared.Outcome.{Outcome}
 use Rattle.outcome.specs.declared.Outcome.the-variants as O
 use Rattle.search.specs.Search.{Tested}
@@ -28,7 +28,7 @@ abbrev atom : tie.Start → Option ℕ
 atom s = lowest (valued (s .args .values .now)) (s .args .tb .atoms)
 
 abbrev tests : tie.Start → Tested
-tests s = testBy (s .args .cycles) (programOf (s .args .t .now) (s .args .tb)) (s .args .tb .atoms) (left s) (trueAtoms (s .args .tb .atoms) (valued (s .args .values .now)))
+tests s = testBy (s .args .cycles) (taking (s .args .t .now) (s .args .lists .now)) (s .args .tb .atoms) (left s) (trueAtoms (s .args .tb .atoms) (valued (s .args .values .now)))
 
 abbrev more : tie.Start → Bool
 more s = ltb (s .args .choices) (s .args .limit)
@@ -84,7 +84,7 @@ sub-left c = search needs
 test-requires : tie.Need-test-requires
 test-requires c κs =
     let s = c .before .before .before .before .before .before in
-    (s .pre .0, lowest-none (valued (s .args .values .now)) (s .args .tb .atoms) (whole (c .before)))
+    (s .pre .0, s .pre .1, lowest-none (valued (s .args .values .now)) (s .args .tb .atoms) (whole (c .before)))
 
 enum-known-tested : tie.Need-enum-known-tested
 enum-known-tested c = search needs

@@ -15,6 +15,7 @@ use Rattle.interpretation.specs.View.{view, cells}
 use Rattle.interpretation.specs.declared.Interpretation.{Interpretation}
 use Rattle.layout.specs.declared.Table.{Table}
 use Rattle.layout.specs.Layout.{ruleAt, programOf}
+use Rattle.heads.specs.Heads.{taking}
 use Rattle.steps.specs.Steps.{stepE, rulePass, atomPass, passes, passesMade}
 use Rattle.steps.proofs.Ending.{missing}
 use Rattle.propagation.specs.Propagation.{work}
@@ -26,9 +27,9 @@ use Rattle.smaller.specs.Cyclic.{baseBy}
 use Rattle.jumping.specs.Jumping.{Ordered, Led}
 use Rattle.jumping.proofs.search_by.Tie as tie
 
--- the problem of a table, by the mode
-abbrev pub problem : Bool → List ℤ → Table → Problem
-problem cycles t tb = baseBy cycles (programOf t tb) (tb .atoms)
+-- the problem of a table, by the mode, with the rules of list 0
+abbrev pub problem : Bool → List ℤ → Table → List ℕ → Problem
+problem cycles t tb lists = baseBy cycles (taking t lists) (tb .atoms)
 
 -- the state of the defined search that the locals stand for; `skipped`: what no local has
 abbrev pub config : Interpretation → List (List ℕ) → ℕ → ℕ → ℕ → List Branch → State
@@ -37,7 +38,7 @@ config it reasons choices skips most skipped = record { interpretation = view it
 abbrev pub Inv-rules : tie.InvT-rules
 Inv-rules t tb cycles lists limit candidates it₀ reasons₀ choices skips most n first end why₀ made rules-to₀ atoms-to₀ changed₀ quiet₀ r₀ it reasons why rules-to atoms-to changed quiet r =
     (first ≤ r) × (length reasons ≡ 256) × Kept (view it₀) (view it)
-    × (rulePass (rulesAt t lists r end) (work it reasons changed) ≡ rulePass (programOf t tb) (work it₀ reasons₀ false))
+    × (rulePass (rulesAt t lists r end) (work it reasons changed) ≡ rulePass (taking t lists) (work it₀ reasons₀ false))
     × (rules-to ≤ end) × (quiet ≤ end) × QuietRules t lists (it .values) quiet r × QuietRules t lists (it .values) rules-to end
     × (atoms-to ≤ tb .atoms) × QuietAtoms t tb (it .values) atoms-to (suc (tb .atoms))
 
@@ -67,8 +68,8 @@ abbrev pub Inv-passes : tie.InvT-passes
 Inv-passes t tb cycles lists limit candidates it₀ reasons₀ choices skips most n first end why₀ made₀ rules-to₀ atoms-to₀ it reasons why made rules-to atoms-to =
     (length reasons ≡ 256) × Kept (view it₀) (view it)
     × ((f : ℕ) × (b : Bool) × (number (tb .atoms) (missing (cells (it .values) (it .records))) < f) × (made + f ≡ suc (suc (tb .atoms)))
-    × (passes (programOf t tb) (tb .atoms) f (work it reasons b) ≡ passes (programOf t tb) (tb .atoms) (suc (tb .atoms)) (work it₀ reasons₀ false))
-    × (made + passesMade (programOf t tb) (tb .atoms) f (work it reasons b) ≡ suc (passesMade (programOf t tb) (tb .atoms) (suc (tb .atoms)) (work it₀ reasons₀ false))))
+    × (passes (taking t lists) (tb .atoms) f (work it reasons b) ≡ passes (taking t lists) (tb .atoms) (suc (tb .atoms)) (work it₀ reasons₀ false))
+    × (made + passesMade (taking t lists) (tb .atoms) f (work it reasons b) ≡ suc (passesMade (taking t lists) (tb .atoms) (suc (tb .atoms)) (work it₀ reasons₀ false))))
     × (rules-to ≤ end) × QuietRules t lists (it .values) rules-to end × (atoms-to ≤ tb .atoms) × QuietAtoms t tb (it .values) atoms-to (suc (tb .atoms))
 
 abbrev pub μ-passes : tie.MeasureT-passes
@@ -77,7 +78,7 @@ abbrev pub μ-passes : tie.MeasureT-passes
 abbrev pub Inv-turns : tie.InvT-turns
 Inv-turns t tb cycles lists limit candidates₀ it₀ reasons₀ choices₀ skips₀ most₀ n first end candidates it reasons choices skips most =
     Ordered (tb .atoms) (view it) × (skips + it .depth ≤ choices) × (choices ≤ limit) × (length reasons ≡ 256)
-    × ((s : List Branch) → (g : List Branch) × Led (problem cycles t tb) limit (config it₀ reasons₀ choices₀ skips₀ most₀ s) (config it reasons choices skips most g))
+    × ((s : List Branch) → (g : List Branch) × Led (problem cycles t tb lists) limit (config it₀ reasons₀ choices₀ skips₀ most₀ s) (config it reasons choices skips most g))
 
 abbrev pub μ-turns : tie.MeasureT-turns
 μ-turns t tb cycles lists limit candidates₀ it₀ reasons₀ choices₀ skips₀ most₀ n first end candidates it reasons choices skips most = (limit - choices) * suc (tb .atoms) + it .depth

@@ -15,15 +15,16 @@ use Rattle.meaning.proofs.Tools.{number, number-top}
 use Rattle.levels.specs.View.{row, rows}
 use Rattle.interpretation.specs.View.{view, cells}
 use Rattle.interpretation.specs.declared.Interpretation.{Interpretation}
-use Rattle.layout.proofs.Inside.{atoms-in}
 use Rattle.layout.specs.Layout.{ruleAt, programOf}
+use Rattle.heads.specs.Heads.{listAt, taking}
+use Rattle.heads.proofs.Taking.{part-in}
 use Rattle.outcome.specs.declared.Outcome.{Outcome}
 use Rattle.outcome.specs.declared.Outcome.the-variants.{Settled, Conflict}
 use Rattle.steps.specs.Steps.{Work, refuted, stepRule, stepAtom, rulePass, atomPass, pass, passes, further, passesMade}
 use Rattle.steps.proofs.Ending.{missing, fewer}
 use Rattle.propagation.specs.Propagation.{work}
 use Rattle.propagation.proofs.Quiet.{rules-out, rules-fewer, quiet-rules, atoms-out, atoms-join, quiet-atoms}
-use Rattle.propagation.proofs.Passing.{rulesAt, all-rules, rules-on, atoms-on, rules-conflict, atoms-conflict, goOn, passes-on, made-on}
+use Rattle.propagation.proofs.Passing.{rulesAt, part-atoms, rules-on, atoms-on, rules-conflict, atoms-conflict, goOn, passes-on, made-on}
 use Rattle.propagation.proofs.Stepped.{Kept, kept-then, rule-refutes, atom-refutes}
 use Rattle.propagation.proofs.Handing.{Handed, handed, carried}
 use Rattle.jumping.proofs.search_by.Tie as tie
@@ -58,7 +59,7 @@ rules-holds c =
       omega arith,
       c .passes .inv .0,
       (refl, refl),
-      ap (λ (P : Program). rulePass P (work (c .passes .it) (c .passes .reasons) false)) (all-rules (a .t .now) (a .tb) (a .lists .now) (s .pre .1)),
+      refl,
       c .passes .inv .3,
       s .pre .1 .all .ordered,
       rules-out (a .t .now) (a .lists .now) (c .passes .it .values) first first (omega arith),
@@ -69,9 +70,12 @@ rules-holds c =
 
 -- ---- a pass
 
--- the program, and the working state from which the pass at hand began
+-- the rules that take part, all rules of the table, and the working state from which the pass at hand began
 abbrev program : Of tie.At-rules → Program
-program b = let a = start b .args in programOf (a .t .now) (a .tb)
+program b = let a = start b .args in taking (a .t .now) (a .lists .now)
+
+abbrev allRules : Of tie.At-rules → Program
+allRules b = let a = start b .args in programOf (a .t .now) (a .tb)
 
 abbrev began : Of tie.At-rules → Work
 began b = let p = passAt b .passes in work (p .it) (p .reasons) (p .inv .2 .1)
@@ -84,15 +88,17 @@ record Passed (b : Of tie.At-rules) (x : Work) : Type 0 where
   counts : let n = start b .args .tb .atoms in let t = turnAt b .turns in
       passAt b .passes .made + further (x .verdict) (x .changed) (passesMade (program b) n (passAt b .passes .inv .2 .0 - 1) x) ≡ passesMade (program b) n (suc n) (work (t .it) (t .reasons) false)
 
--- what the rules came to, y, and then the atoms, x
+-- what the rules came to, y, and then the atoms, x: for these all rules of the table are as good
 rest : (b : Of tie.At-rules) (y x : Work) → let a = start b .args in
-    rulePass (rulesAt (a .t .now) (a .lists .now) (b .rules .r) (getD (a .lists .now) 1 0)) (work (b .rules .it) (b .rules .reasons) (b .rules .changed)) ≡ y → atomPass (program b) (a .tb .atoms) 1 y ≡ x → Passed b x
+    rulePass (rulesAt (a .t .now) (a .lists .now) (b .rules .r) (getD (a .lists .now) 1 0)) (work (b .rules .it) (b .rules .reasons) (b .rules .changed)) ≡ y → atomPass (allRules b) (a .tb .atoms) 1 y ≡ x → Passed b x
 rest b y x e d =
     let P = program b in
-    let n = start b .args .tb .atoms in
+    let a = start b .args in
+    let n = a .tb .atoms in
+    let f = sym (part-atoms (a .t .now) (a .tb) (listAt (a .lists .now) 0) (start b .pre .1 .part) n 1 y) ∙ d in
     let i = passAt b .passes .inv .2 in
     let h = i .2 in
-    let z : pass P n (began b) ≡ x = ap (atomPass P n 1) (sym (b .rules .inv .3) ∙ e) ∙ d in
+    let z : pass P n (began b) ≡ x = ap (atomPass P n 1) (sym (b .rules .inv .3) ∙ e) ∙ f in
     let e = made-on P n (i .0) (began b) x (omega (arith, h)) z in
     record {
       same = z;
@@ -132,7 +138,7 @@ falls c =
     let n = a .tb .atoms in
     let w = began b in
     let z = ended (c .before) true (not-false _ (c .if1 .left)) .same in
-    subst (λ (x : Work). number n (missing (x .cell)) < number n (missing (w .cell))) z (fewer n (program b) (atoms-in (a .t .now) (a .tb) (start b .pre .0)) w (ap (λ (x : Work). x .changed) z))
+    subst (λ (x : Work). number n (missing (x .cell)) < number n (missing (w .cell))) z (fewer n (program b) (part-in (a .t .now) (a .tb) (start b .pre .0) (listAt (a .lists .now) 0) (start b .pre .1 .part .lie)) w (ap (λ (x : Work). x .changed) z))
 
 pub passes-less : Of tie.Need-passes-less
 passes-less c = falls c
@@ -174,7 +180,7 @@ passes-again c =
 -- ---- the three ways out: a rule in conflict, an atom in conflict, a pass that changed nothing
 
 abbrev Result : Of tie.At-rules → Interpretation → List (List ℕ) → List ℕ → Outcome → Type 0
-Result b it reasons why out = let a = start b .args in let t = turnAt b .turns in Handed (a .t .now) (a .tb) (t .it) (t .reasons) (passAt b .passes .made) it reasons why out
+Result b it reasons why out = let a = start b .args in let t = turnAt b .turns in Handed (program b) (a .tb .atoms) (t .it) (t .reasons) (passAt b .passes .made) it reasons why out
 
 rule-conflict : (c : Of tie.After-reason) → let b = c .before .before .before .before .before .before .before .before .before .before .before in Result b (b .rules .it) (b .rules .reasons) (c .reason .result) Conflict
 rule-conflict c =
@@ -193,9 +199,9 @@ rule-conflict c =
     rule-refutes (b .rules .it) (b .rules .reasons) (b .rules .changed) rule (c .reason .result) (c .reason .ensures) (sym (d .demand .ensures) ∙ x .enum-told2 .given .1) in
     let e : rulePass (rulesAt t l (b .rules .r) end) w ≡ z =
     rules-on t l (b .rules .r) end w (inside (d .before .before .before .before)) (start b .pre .1 .all .fits) ∙ ap (rulePass after) s ∙ rules-conflict after z (row (c .reason .result)) refl in
-    let y = rest b z z e (atoms-conflict (program b) (a .tb .atoms) 1 z (row (c .reason .result)) refl) in
+    let y = rest b z z e (atoms-conflict (allRules b) (a .tb .atoms) 1 z (row (c .reason .result)) refl) in
     let first = turnAt b .turns in
-    handed t (a .tb) (first .it) (first .reasons) (passAt b .passes .made) (b .rules .it) (b .rules .reasons) (c .reason .result) Conflict (b .rules .changed) (stays b) (y .goes) (omega (arith, y .counts))
+    handed (program b) (a .tb .atoms) (first .it) (first .reasons) (passAt b .passes .made) (b .rules .it) (b .rules .reasons) (c .reason .result) Conflict (b .rules .changed) (stays b) (y .goes) (omega (arith, y .counts))
 
 atom-conflict : (c : Of tie.After-whole-reason) → let g = c .before .before .before .before .before .before .before .before .before .before in Result (rulesOf g) (g .atoms .it) (g .atoms .reasons) (c .whole-reason .result) Conflict
 atom-conflict c =
@@ -205,7 +211,7 @@ atom-conflict c =
     let b = rulesOf g in
     let a = start b .args in
     let t = a .t .now in
-    let P = program b in
+    let P = allRules b in
     let n = a .tb .atoms in
     let p = g .atoms .p in
     let y = work (b .rules .it) (b .rules .reasons) (b .rules .changed) in
@@ -218,7 +224,7 @@ atom-conflict c =
     sym (g .atoms .inv .4) ∙ atoms-on P n p w (within (d .before .before .before) .3) ∙ ap (atomPass P (suc n - (p + 1)) (p + 1)) s ∙ atoms-conflict P (suc n - (p + 1)) (p + 1) z C refl in
     let v = rest b y z (rested g) e in
     let first = turnAt b .turns in
-    handed t (a .tb) (first .it) (first .reasons) (passAt b .passes .made) (g .atoms .it) (g .atoms .reasons) (c .whole-reason .result) Conflict (g .atoms .changed) (stays-on g) (v .goes) (omega (arith, v .counts))
+    handed (program b) (a .tb .atoms) (first .it) (first .reasons) (passAt b .passes .made) (g .atoms .it) (g .atoms .reasons) (c .whole-reason .result) Conflict (g .atoms .changed) (stays-on g) (v .goes) (omega (arith, v .counts))
 
 at-rest : (c : Of tie.Then1) → let g = c .before .before in Result (rulesOf g) (g .atoms .it) (g .atoms .reasons) (g .atoms .why) Settled
 at-rest c =
@@ -227,17 +233,17 @@ at-rest c =
     let a = start b .args in
     let v = ended (c .before) false (not-true _ (c .if1 .taken)) in
     let first = turnAt b .turns in
-    handed (a .t .now) (a .tb) (first .it) (first .reasons) (passAt b .passes .made) (g .atoms .it) (g .atoms .reasons) (g .atoms .why) Settled false (stays-on g) (v .goes) (omega (arith, v .counts))
+    handed (program b) (a .tb .atoms) (first .it) (first .reasons) (passAt b .passes .made) (g .atoms .it) (g .atoms .reasons) (g .atoms .why) Settled false (stays-on g) (v .goes) (omega (arith, v .counts))
 
 pub propagates : (c : Of tie.Left-rules) → Result (c .before) (c .rules-test .it) (c .rules-test .reasons) (c .rules-test .why) (c .rules-test .out)
 propagates c =
     let a = start (c .before) .args in
     let t = turnAt (c .before) .turns in
     ⊎-elim
-    (λ w. carried (a .t .now) (a .tb) (t .it) (t .reasons) (w .11) (w .12) (w .13) (w .16) (rule-conflict (record { before = record { before = record { before = record { before = record { before = record { before = record { before = record { before = record { before = record { before = record { before = c .before; rules-test = w .0 }; at = w .1 }; it2 = w .2 }; demand-arg = w .3 }; demand = w .4 }; match = w .5 }; enum-told2 = w .6 }; it3 = w .7 }; reason-arg = w .8 }; reasons = w .9 }; reason = w .10 })))
+    (λ w. carried (program (c .before)) (a .tb .atoms) (t .it) (t .reasons) (w .11) (w .12) (w .13) (w .16) (rule-conflict (record { before = record { before = record { before = record { before = record { before = record { before = record { before = record { before = record { before = record { before = record { before = c .before; rules-test = w .0 }; at = w .1 }; it2 = w .2 }; demand-arg = w .3 }; demand = w .4 }; match = w .5 }; enum-told2 = w .6 }; it3 = w .7 }; reason-arg = w .8 }; reasons = w .9 }; reason = w .10 })))
     (⊎-elim
-    (λ w. carried (a .t .now) (a .tb) (t .it) (t .reasons) (w .12) (w .13) (w .14) (w .17) (atom-conflict (record { before = record { before = record { before = record { before = record { before = record { before = record { before = record { before = record { before = record { before = record { before = record { before = c .before; rules-test = w .0 }; atoms = w .1 }; atoms-test = w .2 }; it5 = w .3 }; asked-arg = w .4 }; asked = w .5 }; match2 = w .6 }; enum-told4 = w .7 }; it6 = w .8 }; whole-reason-arg = w .9 }; reasons3 = w .10 }; whole-reason = w .11 })))
-    (λ w. carried (a .t .now) (a .tb) (t .it) (t .reasons) (w .4) (w .5) (w .6) (w .9) (at-rest (record { before = record { before = record { before = record { before = c .before; rules-test = w .0 }; atoms = w .1 }; atoms-test = w .2 }; if1 = w .3 }))))
+    (λ w. carried (program (c .before)) (a .tb .atoms) (t .it) (t .reasons) (w .12) (w .13) (w .14) (w .17) (atom-conflict (record { before = record { before = record { before = record { before = record { before = record { before = record { before = record { before = record { before = record { before = record { before = record { before = c .before; rules-test = w .0 }; atoms = w .1 }; atoms-test = w .2 }; it5 = w .3 }; asked-arg = w .4 }; asked = w .5 }; match2 = w .6 }; enum-told4 = w .7 }; it6 = w .8 }; whole-reason-arg = w .9 }; reasons3 = w .10 }; whole-reason = w .11 })))
+    (λ w. carried (program (c .before)) (a .tb .atoms) (t .it) (t .reasons) (w .4) (w .5) (w .6) (w .9) (at-rest (record { before = record { before = record { before = record { before = c .before; rules-test = w .0 }; atoms = w .1 }; atoms-test = w .2 }; if1 = w .3 }))))
     (c .rules-test .came)
 
 -- the rows are 256 still

@@ -43,7 +43,7 @@ pub lies : (c : Of tie.In-rules) → let a = start (c .before) .args in
     RuleLies (a .tb .atoms) (a .tb .aggregates) (a .t .now) (getD (a .lists .now) (c .before .rules .r) 0)
 lies c =
     let p = start (c .before) in
-    lies-at (p .args .t .now) (p .args .tb) (p .args .lists .now) (p .pre .1) (p .pre .0) (c .before .rules .r) (c .before .rules .inv .0) (inside c)
+    lies-at (p .args .t .now) (p .args .tb) (p .args .lists .now) (p .pre .1) (c .before .rules .r) (c .before .rules .inv .0) (inside c)
 
 pub cast-at : Of tie.Need-cast-at
 cast-at c = let s = start (c .before .before) .pre .0 .short in let f = lies (c .before) .heads .fits in omega (arith, s, f)

@@ -8,7 +8,7 @@ use native.Mathlib.Omega.{arith}
 use Rattle.levels.specs.View.{rows}
 use Rattle.interpretation.specs.State.{Cell, Interpretation}
 use Rattle.interpretation.specs.View.{view}
-use Rattle.layout.specs.Layout.{programOf}
+use Rattle.heads.specs.Heads.{taking}
 use Rattle.search.specs.Search.{State, start}
 use Rattle.search.specs.Base.{pinned}
 use Rattle.jumping.specs.Jumping.{Ordered, stateOf}
@@ -44,7 +44,7 @@ returns c =
     let i = n .before in
     let a = i .before .args in
     let pins = takenOf (a .tb .atoms) (pinsIn (a .s .now)) in
-    let P = pinned (programOf (a .t .now) (a .tb)) (a .tb .atoms) (pinsOf pins) in
+    let P = pinned (taking (a .t .now) (a .lists .now)) (a .tb .atoms) (pinsOf pins) in
     let cell : view (i .start .result) .cell ≡ start P .interpretation .cell = ap (λ (x : Interpretation). x .cell) (i .start .ensures) ∙ start-cells pins in
     let f : record { interpretation = view (i .start .result); reason = rows (n .no-rows .result); choices = 0; skips = 0; passes = 0; skipped = [] } ≡ start P = λ j. record {
       interpretation = record { level = i .start .ensures j .level; choice = i .start .ensures j .choice; cell = cell j };
@@ -54,7 +54,7 @@ returns c =
       passes = 0;
       skipped = [];
     } in
-    solves-by P (a .limit) _ (r .result) f (searched-pinned (programOf (a .t .now) (a .tb)) (a .tb .atoms) (pinsOf pins) (a .limit) _ (r .result) (r .ensures []))
+    solves-by P (a .limit) _ (r .result) f (searched-pinned (taking (a .t .now) (a .lists .now)) (a .tb .atoms) (pinsOf pins) (a .limit) _ (r .result) (r .ensures []))
 
 pub search-spec : {M : Type 1} → statement M
 search-spec = tie.close (tie.spec start-requires no-rows-requires search-by-requires returns)
