@@ -1,4 +1,4 @@
--- THE FINAL THEOREMS of giving up constraints: of a program whose atoms lie in 1 .. n and which has neither a head cycle nor an aggregate cycle.
+-- THE FINAL THEOREMS of giving up constraints: of a program whose atoms lie in 1 .. n and which has no aggregate cycle and, in 01's mode, no head cycle.
 --   relax-gives        a plan comes with kept constraints that are as `Keeps` says, and is the first answer set of the rules kept
 --   given-one          kept constraints and plan are unique, so the numbers dropped are
 --   drops-leave-none   "Putting back any one dropped constraint leaves no plan"
@@ -19,14 +19,16 @@ use Rattle.meaning.specs.Lists.{Is, _∈_, consIf, keep}
 use Rattle.meaning.specs.Aggregates.{Atoms}
 use Rattle.meaning.specs.Program.{Rule, Program, AtomsIn}
 use Rattle.meaning.specs.Answers.{AnswerSet, First}
-use Rattle.meaning.specs.Dependency.{HeadCycle, AggregateCycle, Free}
+use Rattle.meaning.specs.Dependency.{AggregateCycle, Free}
 use Rattle.numbered.specs.Numbered.{NumberedFrom, Numbered}
 use Rattle.meaning.proofs.Tools.{cases, or-l, or-r}
 use Rattle.meaning.proofs.Order.{first-unique}
 use Rattle.numbered.proofs.Numbered.{in-numbered}
-use Rattle.search.specs.Search.{jump, Result, answer, noAnswer, limit, Outcome, solve}
-use Rattle.search.specs.Base.{base}
-use Rattle.search.proofs.Base as Search
+use Rattle.search.specs.Search.{Problem, jump, Result, answer, noAnswer, limit, Outcome, solve}
+use Rattle.search.specs.Laws.{Laws}
+use Rattle.search.proofs.Theorems as Search
+use Rattle.smaller.specs.Cyclic.{baseBy}
+use Rattle.smaller.proofs.Modes.{HeadsFree, mode-base-laws}
 use Rattle.relaxing.specs.Relaxing.{headed, rulesFrom, rulesOf, droppedOf, noneKept, withNumber, keptBefore, offeredRules, Keeps, Trial, found, nothing, stopped, Relaxed, relaxed, noPlan, atLimit, byResult, byOutcome, trial, after, offer, relaxBy, relax}
 use Rattle.relaxing.proofs.Fewer.{Part, fewer-rules, part-inside, part-heads, part-aggregates}
 use Rattle.relaxing.proofs.Kept.{rules-i, rules-part, dropped-e, heads-alone, keeps-one, put-back}
@@ -59,50 +61,56 @@ found-one e = ap planOf e
     planOf nothing = noneKept
     planOf stopped = noneKept
 
-module _ (n : ℕ) (P : Program) (inside : AtomsIn n P) (noHead : Free HeadCycle P) (noAgg : Free AggregateCycle P) (lim : ℕ) where
+module _ (cycles : Bool) (n : ℕ) (P : Program) (inside : AtomsIn n P) (noHead : HeadsFree cycles P) (noAgg : Free AggregateCycle P) (lim : ℕ) where
   -- the outcome behind a trial of a part of P
   module _ (Q : Program) (part : Part Q P) where
-    ends : (o : Outcome) × (solve (base Q n) jump lim ≡ some o)
-    ends = Search.search-ends n Q (part-inside Q P part n inside) (part-heads Q P part noHead) (part-aggregates Q P part noAgg) lim jump
+    abbrev problem : Problem
+    problem = baseBy cycles Q n
 
-    trial-is : trial n lim Q ≡ byResult (ends .0 .result)
+    laws : Laws (AnswerSet Q) problem
+    laws = mode-base-laws cycles n Q (part-inside Q P part n inside) (λ e. part-heads Q P part (noHead e)) (part-aggregates Q P part noAgg)
+
+    ends : (o : Outcome) × (solve problem jump lim ≡ some o)
+    ends = Search.search-ends (AnswerSet Q) problem laws lim jump
+
+    trial-is : trial cycles n lim Q ≡ byResult (ends .0 .result)
     unfolding trial
     trial-is = ap byOutcome (ends .1)
 
-    trial-found : (X : Atoms) → trial n lim Q ≡ found X → AnswerSet Q X × First n (AnswerSet Q) X
+    trial-found : (X : Atoms) → trial cycles n lim Q ≡ found X → AnswerSet Q X × First n (AnswerSet Q) X
     trial-found X e = at (ends .0 .result) refl
       where
         at : (r : Result) → ends .0 .result ≡ r → AnswerSet Q X × First n (AnswerSet Q) X
         at (answer Y) f =
             let y : Y ≡ X = found-one (sym (ap byResult f) ∙ sym trial-is ∙ e) in
-            Search.answer-is-first n Q (part-inside Q P part n inside) (part-heads Q P part noHead) (part-aggregates Q P part noAgg) lim jump (ends .0) (ends .1) X (f ∙ ap answer y)
+            Search.answer-is-first (AnswerSet Q) problem laws lim jump (ends .0) (ends .1) refl X (f ∙ ap answer y)
         at noAnswer f = absurd (found-nothing (sym e ∙ trial-is ∙ ap byResult f))
         at limit f = absurd (found-stopped (sym e ∙ trial-is ∙ ap byResult f))
 
-    trial-nothing : trial n lim Q ≡ nothing → (X : Atoms) → AnswerSet Q X → ⊥
+    trial-nothing : trial cycles n lim Q ≡ nothing → (X : Atoms) → AnswerSet Q X → ⊥
     trial-nothing e = at (ends .0 .result) refl
       where
         at : (r : Result) → ends .0 .result ≡ r → (X : Atoms) → AnswerSet Q X → ⊥
         at (answer Y) f = absurd (found-nothing (sym (ap byResult f) ∙ sym trial-is ∙ e))
-        at noAnswer f = Search.none-means-none n Q (part-inside Q P part n inside) (part-heads Q P part noHead) (part-aggregates Q P part noAgg) lim jump (ends .0) (ends .1) f
+        at noAnswer f = Search.none-means-none (AnswerSet Q) problem laws lim jump (ends .0) (ends .1) f
         at limit f = absurd (nothing-stopped (sym e ∙ trial-is ∙ ap byResult f))
 
     -- a trial is stopped only by the limit
-    pub trial-stopped : trial n lim Q ≡ stopped → (o : Outcome) × (solve (base Q n) jump lim ≡ some o) × (o .result ≡ limit)
+    pub trial-stopped : trial cycles n lim Q ≡ stopped → (o : Outcome) × (solve problem jump lim ≡ some o) × (o .result ≡ limit)
     trial-stopped e = at (ends .0 .result) refl
       where
-        at : (r : Result) → ends .0 .result ≡ r → (o : Outcome) × (solve (base Q n) jump lim ≡ some o) × (o .result ≡ limit)
+        at : (r : Result) → ends .0 .result ≡ r → (o : Outcome) × (solve problem jump lim ≡ some o) × (o .result ≡ limit)
         at (answer Y) f = absurd (found-stopped (sym (ap byResult f) ∙ sym trial-is ∙ e))
         at noAnswer f = absurd (nothing-stopped (sym (ap byResult f) ∙ sym trial-is ∙ e))
         at limit f = (ends .0, ends .1, f)
 
-    pub trial-larger : (more : ℕ) → lim ≤ more → trial n lim Q ≢ stopped → trial n more Q ≡ trial n lim Q
+    pub trial-larger : (more : ℕ) → lim ≤ more → trial cycles n lim Q ≢ stopped → trial cycles n more Q ≡ trial cycles n lim Q
     unfolding trial
     trial-larger more l d =
         let k : ends .0 .result ≢ limit = λ f. d (trial-is ∙ ap byResult f) in
-        ap byOutcome (Search.limit-no-matter n Q (part-inside Q P part n inside) (part-heads Q P part noHead) (part-aggregates Q P part noAgg) lim more l jump (ends .0) (ends .1) k ∙ sym (ends .1))
+        ap byOutcome (Search.limit-no-matter (AnswerSet Q) problem laws lim more l jump (ends .0) (ends .1) k ∙ sym (ends .1))
 
-  pub trials-judge : Judges n P (trial n lim)
+  pub trials-judge : Judges n P (trial cycles n lim)
   trials-judge = record { foundIs = trial-found; nothingIs = trial-nothing }
 
 -- ---- none, and limit: for any trials
@@ -217,46 +225,46 @@ plan-keeps-all P kept K Z A = all-in kept 1 P (λ k r m. at k r m (cases (headed
 
 -- ---- the theorems
 
-module _ (n : ℕ) (P : Program) (inside : AtomsIn n P) (noHead : Free HeadCycle P) (noAgg : Free AggregateCycle P) (lim : ℕ) where
-  pub relax-gives : (kept : ℕ → Bool) (X : Atoms) → relax n lim P ≡ relaxed kept X → Given n P kept X
-  relax-gives kept X e = relaxed-gives n P (trial n lim) (trials-judge n P inside noHead noAgg lim) kept X e
+module _ (cycles : Bool) (n : ℕ) (P : Program) (inside : AtomsIn n P) (noHead : HeadsFree cycles P) (noAgg : Free AggregateCycle P) (lim : ℕ) where
+  pub relax-gives : (kept : ℕ → Bool) (X : Atoms) → relax cycles n lim P ≡ relaxed kept X → Given n P kept X
+  relax-gives kept X e = relaxed-gives n P (trial cycles n lim) (trials-judge cycles n P inside noHead noAgg lim) kept X e
 
-  pub none-means-none : relax n lim P ≡ noPlan → (X : Atoms) → AnswerSet (keep headed P) X → ⊥
+  pub none-means-none : relax cycles n lim P ≡ noPlan → (X : Atoms) → AnswerSet (keep headed P) X → ⊥
   none-means-none e X A =
-      trials-judge n P inside noHead noAgg lim .nothingIs (rulesOf P noneKept) (rules-part noneKept P) (relax-none (trial n lim) P e) X
+      trials-judge cycles n P inside noHead noAgg lim .nothingIs (rulesOf P noneKept) (rules-part noneKept P) (relax-none (trial cycles n lim) P e) X
       (subst (λ (Q : Program). AnswerSet Q X) (sym (heads-alone P)) A)
 
   -- the first trial is all that is made
-  pub none-is-said : ((X : Atoms) → AnswerSet (keep headed P) X → ⊥) → (relax n lim P ≡ noPlan) ⊎ ((relax n lim P ≡ atLimit) × (trial n lim (rulesOf P noneKept) ≡ stopped))
+  pub none-is-said : ((X : Atoms) → AnswerSet (keep headed P) X → ⊥) → (relax cycles n lim P ≡ noPlan) ⊎ ((relax cycles n lim P ≡ atLimit) × (trial cycles n lim (rulesOf P noneKept) ≡ stopped))
   unfolding relaxBy
-  none-is-said absent = at (trial n lim (rulesOf P noneKept)) refl
+  none-is-said absent = at (trial cycles n lim (rulesOf P noneKept)) refl
     where
-      at : (t : Trial) → trial n lim (rulesOf P noneKept) ≡ t → (relax n lim P ≡ noPlan) ⊎ ((relax n lim P ≡ atLimit) × (trial n lim (rulesOf P noneKept) ≡ stopped))
-      at (found Y) g = absurd (absent Y (subst (λ (Q : Program). AnswerSet Q Y) (heads-alone P) (trials-judge n P inside noHead noAgg lim .foundIs (rulesOf P noneKept) (rules-part noneKept P) Y g .0)))
-      at nothing g = inl (ap (after (λ Y. offer (trial n lim) P noneKept Y 1 P) noPlan) g)
-      at stopped g = inr (ap (after (λ Y. offer (trial n lim) P noneKept Y 1 P) noPlan) g, g)
+      at : (t : Trial) → trial cycles n lim (rulesOf P noneKept) ≡ t → (relax cycles n lim P ≡ noPlan) ⊎ ((relax cycles n lim P ≡ atLimit) × (trial cycles n lim (rulesOf P noneKept) ≡ stopped))
+      at (found Y) g = absurd (absent Y (subst (λ (Q : Program). AnswerSet Q Y) (heads-alone P) (trials-judge cycles n P inside noHead noAgg lim .foundIs (rulesOf P noneKept) (rules-part noneKept P) Y g .0)))
+      at nothing g = inl (ap (after (λ Y. offer (trial cycles n lim) P noneKept Y 1 P) noPlan) g)
+      at stopped g = inr (ap (after (λ Y. offer (trial cycles n lim) P noneKept Y 1 P) noPlan) g, g)
 
-  pub none-exactly : relax n lim P ≢ atLimit → (relax n lim P ≡ noPlan) ↔ ((X : Atoms) → AnswerSet (keep headed P) X → ⊥)
+  pub none-exactly : relax cycles n lim P ≢ atLimit → (relax cycles n lim P ≡ noPlan) ↔ ((X : Atoms) → AnswerSet (keep headed P) X → ⊥)
   none-exactly d = (none-means-none, λ absent. at (none-is-said absent))
     where
-      at : (relax n lim P ≡ noPlan) ⊎ ((relax n lim P ≡ atLimit) × (trial n lim (rulesOf P noneKept) ≡ stopped)) → relax n lim P ≡ noPlan
+      at : (relax cycles n lim P ≡ noPlan) ⊎ ((relax cycles n lim P ≡ atLimit) × (trial cycles n lim (rulesOf P noneKept) ≡ stopped)) → relax cycles n lim P ≡ noPlan
       at (inl e) = e
       at (inr t) = absurd (d (t .0))
 
-  pub limit-is-a-trials : relax n lim P ≡ atLimit → (kept : ℕ → Bool) × (o : Outcome) × (solve (base (rulesOf P kept) n) jump lim ≡ some o) × (o .result ≡ limit)
+  pub limit-is-a-trials : relax cycles n lim P ≡ atLimit → (kept : ℕ → Bool) × (o : Outcome) × (solve (baseBy cycles (rulesOf P kept) n) jump lim ≡ some o) × (o .result ≡ limit)
   limit-is-a-trials e =
-      let t = relax-limit (trial n lim) P e in
-      let s = trial-stopped n P inside noHead noAgg lim (rulesOf P (t .0)) (rules-part (t .0) P) (t .1) in
+      let t = relax-limit (trial cycles n lim) P e in
+      let s = trial-stopped cycles n P inside noHead noAgg lim (rulesOf P (t .0)) (rules-part (t .0) P) (t .1) in
       (t .0, s .0, s .1, s .2)
 
-  pub larger-limit : (more : ℕ) → lim ≤ more → relax n lim P ≢ atLimit → relax n more P ≡ relax n lim P
-  larger-limit more l d = relax-same (trial n lim) P (trial n more) (λ k s. trial-larger n P inside noHead noAgg lim (rulesOf P k) (rules-part k P) more l s) d
+  pub larger-limit : (more : ℕ) → lim ≤ more → relax cycles n lim P ≢ atLimit → relax cycles n more P ≡ relax cycles n lim P
+  larger-limit more l d = relax-same (trial cycles n lim) P (trial cycles n more) (λ k s. trial-larger cycles n P inside noHead noAgg lim (rulesOf P k) (rules-part k P) more l s) d
 
   -- one of three, and each says what it should
-  pub relax-ends : ((kept : ℕ → Bool) × (X : Atoms) × (relax n lim P ≡ relaxed kept X)) ⊎ ((relax n lim P ≡ noPlan) ⊎ (relax n lim P ≡ atLimit))
-  relax-ends = at (relax n lim P) refl
+  pub relax-ends : ((kept : ℕ → Bool) × (X : Atoms) × (relax cycles n lim P ≡ relaxed kept X)) ⊎ ((relax cycles n lim P ≡ noPlan) ⊎ (relax cycles n lim P ≡ atLimit))
+  relax-ends = at (relax cycles n lim P) refl
     where
-      at : (r : Relaxed) → relax n lim P ≡ r → ((kept : ℕ → Bool) × (X : Atoms) × (relax n lim P ≡ relaxed kept X)) ⊎ ((relax n lim P ≡ noPlan) ⊎ (relax n lim P ≡ atLimit))
+      at : (r : Relaxed) → relax cycles n lim P ≡ r → ((kept : ℕ → Bool) × (X : Atoms) × (relax cycles n lim P ≡ relaxed kept X)) ⊎ ((relax cycles n lim P ≡ noPlan) ⊎ (relax cycles n lim P ≡ atLimit))
       at (relaxed k X) e = inl (k, X, e)
       at noPlan e = inr (inl e)
       at atLimit e = inr (inr e)

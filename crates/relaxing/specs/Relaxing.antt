@@ -1,8 +1,8 @@
--- What to give up when no plan exists (02, request 13). Definitions only: to be believed once a public function of request 13 stands on them.
+-- What to give up when no plan exists (02, request 13). Definitions only: to be believed.
 --   headed             "the rules that have a head"; the others are the constraints
 --   rulesOf P kept     the rules of a trial: those that have a head, and the constraints whose numbers are kept, in table order
 --   Keeps P kept       "offer the constraints in table order; keep each one with which a plan still exists": said with answer sets, no computation
---   trial n lim Q      "Each trial has the given limit": the defined search over the rules Q
+--   trial b n lim Q    "Each trial has the given limit": the defined search over the rules Q, in the mode b of the call (request 14: true where it takes head cycles)
 --   offer, relaxBy     the same by trials: "if one reaches it the call ends with limit. If the rules with heads alone have no answer set, it ends with none"
 --   droppedOf          "the dropped rules' numbers, ascending"
 -- Assumes nothing.
@@ -18,7 +18,7 @@ use Rattle.meaning.specs.Program.{Rule, Program}
 use Rattle.meaning.specs.Answers.{AnswerSet}
 use Rattle.numbered.specs.Numbered.{Numbered}
 use Rattle.search.specs.Search.{jump, Result, answer, noAnswer, limit, Outcome, solve}
-use Rattle.search.specs.Base.{base}
+use Rattle.smaller.specs.Cyclic.{baseBy}
 
 abbrev pub some-in : List ℕ → Bool
 some-in [] = false
@@ -83,8 +83,8 @@ abbrev pub byOutcome : Option Outcome → Trial
 byOutcome none = stopped
 byOutcome (some o) = byResult (o .result)
 
-unfoldable pub trial : ℕ → ℕ → Program → Trial
-trial n lim Q = byOutcome (solve (base Q n) jump lim)
+unfoldable pub trial : Bool → ℕ → ℕ → Program → Trial
+trial cycles n lim Q = byOutcome (solve (baseBy cycles Q n) jump lim)
 
 -- what follows a trial: with the plan found, with none, at the limit
 abbrev pub after : (Atoms → Relaxed) → Relaxed → Trial → Relaxed
@@ -103,5 +103,5 @@ offer try P kept plan i (r ∷ rest) =
 unfoldable pub relaxBy : (Program → Trial) → Program → Relaxed
 relaxBy try P = after (λ X. offer try P noneKept X 1 P) noPlan (try (rulesOf P noneKept))
 
-abbrev pub relax : ℕ → ℕ → Program → Relaxed
-relax n lim P = relaxBy (trial n lim) P
+abbrev pub relax : Bool → ℕ → ℕ → Program → Relaxed
+relax cycles n lim P = relaxBy (trial cycles n lim) P
