@@ -24,7 +24,7 @@ use Rattle.interpretation.specs.declared.Record.{Record}
 use Rattle.interpretation.proofs.Cells.{not-defined, same-val, same-level}
 use Rattle.steps.specs.Steps.{Verdict, settled, conflict, propagate}
 use Rattle.search.specs.Search.{jump, Tested, passed, failed, exhausted, State, tested, choose, settle, propagated, turn, pinnedCell}
-use Rattle.search.specs.Base.{foundedTest, pinned, base}
+use Rattle.smaller.specs.Cyclic.{testBy, problemBy, baseBy}
 use Rattle.outcome.specs.declared.Halt.{Halt}
 use Rattle.jumping.specs.Jumping.{Ordered, Led, here, on, Searched}
 use Rattle.sessions.specs.Sessions.{Pin, Pins, Call, pin, first, isHeld, refusal, changed, unless, next, heldFrom, held, settings, pinsOf, cellsOf}
@@ -153,30 +153,30 @@ ordered-pins n pins G = record { low = low; free = λ q h e. omega arith; chosen
         let z = x .1 in
         (omega (arith, i .0), i .0, i .1)
 
-module _ (P : Program) (n : ℕ) (pins : ℕ → Option Bool) (lim : ℕ) where
-  tested-same : (c : State) (x : Tested) → tested (base P n) jump lim c x ≡ tested (pinned P n pins) jump lim c x
+module _ (cycles : Bool) (P : Program) (n : ℕ) (pins : ℕ → Option Bool) (lim : ℕ) where
+  tested-same : (c : State) (x : Tested) → tested (baseBy cycles P n) jump lim c x ≡ tested (problemBy cycles P n pins) jump lim c x
   tested-same c (passed k) = refl
   tested-same c (failed k) = refl
   tested-same c exhausted = refl
 
-  choose-same : (c : State) (o : Option ℕ) → choose (base P n) jump lim c o ≡ choose (pinned P n pins) jump lim c o
-  choose-same c none = tested-same c (foundedTest P n (lim - c .choices) (trueAtoms n (c .interpretation .cell)))
+  choose-same : (c : State) (o : Option ℕ) → choose (baseBy cycles P n) jump lim c o ≡ choose (problemBy cycles P n pins) jump lim c o
+  choose-same c none = tested-same c (testBy cycles P n (lim - c .choices) (trueAtoms n (c .interpretation .cell)))
   choose-same c (some p) = refl
 
-  settle-same : (c : State) (v : Verdict) → settle (base P n) jump lim c v ≡ settle (pinned P n pins) jump lim c v
+  settle-same : (c : State) (v : Verdict) → settle (baseBy cycles P n) jump lim c v ≡ settle (problemBy cycles P n pins) jump lim c v
   settle-same c settled = choose-same c (lowest (c .interpretation .cell) n)
   settle-same c (conflict C) = refl
 
   -- turns do not look at the pins
-  turn-same : (c : State) → turn (base P n) jump lim c ≡ turn (pinned P n pins) jump lim c
+  turn-same : (c : State) → turn (baseBy cycles P n) jump lim c ≡ turn (problemBy cycles P n pins) jump lim c
   unfolding turn
-  turn-same c = settle-same (propagated (base P n) c) ((propagate P n (c .interpretation) (c .reason)) .verdict)
+  turn-same c = settle-same (propagated (baseBy cycles P n) c) ((propagate P n (c .interpretation) (c .reason)) .verdict)
 
-  led-pinned : (c d : State) → Led (base P n) lim c d → Led (pinned P n pins) lim c d
+  led-pinned : (c d : State) → Led (baseBy cycles P n) lim c d → Led (problemBy cycles P n pins) lim c d
   led-pinned c d (here e) = here e
   led-pinned c x (on {d} {e} l t) = on {d = d} {e = e} (led-pinned c d l) (sym (turn-same d) ∙ t)
 
-  pub searched-pinned : (c : State) (h : Halt) → Searched (base P n) lim c h → Searched (pinned P n pins) lim c h
+  pub searched-pinned : (c : State) (h : Halt) → Searched (baseBy cycles P n) lim c h → Searched (problemBy cycles P n pins) lim c h
   searched-pinned c h s = record {
     last = s .last;
     skipped = s .skipped;

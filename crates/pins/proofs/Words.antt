@@ -19,7 +19,7 @@ use mir.Val.{SFits}
 use Rattle.meaning.specs.Cond.{ifLt}
 use Rattle.meaning.proofs.Cond.{ifLt-yes, ifLt-no, ltCase}
 use Rattle.sessions.specs.Sessions.{Pin, Pins, isHeld}
-use Rattle.pins.specs.Memory.{numberAt, countIn, tableIn, atomsIn, atomAs, valueAs, pinWord, wordAt, pinsTo, heldIn, pinsIn}
+use Rattle.pins.specs.Memory.{numberAt, countIn, tableIn, atomsIn, atomAs, valueAs, pinWord, wordAt, pinsTo, heldIn, pinsIn, modeWord, cyclesIn}
 
 -- a small number as a signed word
 pub fits : (n : ℕ) → n ≤ 16384 → SFits w32 (pos n)
@@ -74,6 +74,22 @@ table-other s j a h =
     let l = number-small s 16384 16384 in
     ap (λ (k : ℕ). take k (set s j a)) n ∙ take-set-le (countIn s) s j a (omega arith)
 
+-- ---- the mode
+
+pub mode-other : (s : List ℤ) (j : ℕ) (a : ℤ) → 16450 ≢ j → cyclesIn (set s j a) ≡ cyclesIn s
+mode-other s j a d = ap (λ (z : ℤ). not (eqb (natAbs z) 0)) (getD-set-other s j 16450 a (pos 0) d)
+
+kept-mode : (cycles : Bool) → not (eqb (modeWord cycles) 0) ≡ cycles
+kept-mode true = refl
+kept-mode false = refl
+
+pub mode-same : (s : List ℤ) (cycles : Bool) → 16450 < length s → cyclesIn (set s 16450 (pos (modeWord cycles))) ≡ cycles
+mode-same s cycles h = ap (λ (z : ℤ). not (eqb (natAbs z) 0)) (getD-set-same s 16450 (pos (modeWord cycles)) (pos 0) h) ∙ kept-mode cycles
+
+pub mode-small : (cycles : Bool) → modeWord cycles ≤ 1
+mode-small true = omega arith
+mode-small false = omega arith
+
 -- ---- the pins
 
 pub pins-length : (s : List ℤ) (k : ℕ) → length (pinsTo s k) ≡ k
@@ -102,7 +118,7 @@ word-pin p false h k =
     λ i. record { atom = a i; value = b i }
 
 -- one pin more
-pub pins-more : (s : List ℤ) (k p : ℕ) (v : Bool) → length s ≡ 16450 → k < 64 → 1 ≤ p → p ≤ 256 → pinsTo (set s (16386 + k) (pos (pinWord p v))) (suc k) ≡ record { atom = p; value = v } ∷ pinsTo s k
+pub pins-more : (s : List ℤ) (k p : ℕ) (v : Bool) → length s ≡ 16451 → k < 64 → 1 ≤ p → p ≤ 256 → pinsTo (set s (16386 + k) (pos (pinWord p v))) (suc k) ≡ record { atom = p; value = v } ∷ pinsTo s k
 unfolding pinsTo
 pins-more s k p v l h i j =
     let u = set s (16386 + k) (pos (pinWord p v)) in

@@ -24,32 +24,32 @@ mod setting;
 // The memory of a session.
 pub type Session = [i32; memory::SIZE];
 
-// Begins a session with a table and no pin, or refuses the table as solving does, without 10; a refusal leaves the session as it stood. The memory that the
-// judge works in is lent: nothing is said of what it holds before or after, and nothing depends on it.
-pub fn open_with(words: &[i32], session: &mut Session, lists: &mut Lists) -> Pinned
-    ensures { λ r. ⌜ Opening (now (words .entry)) (now (session .entry)) (now (session .exit)) r ⌝ }
+// Begins a session with a table, a mode (request 14: whether head cycles are taken) and no pin, or refuses the table as solving does, without 10; a refusal
+// leaves the session as it stood. The memory that the judge works in is lent: nothing is said of what it holds before or after, and nothing depends on it.
+pub fn open_with(words: &[i32], cycles: bool, session: &mut Session, lists: &mut Lists) -> Pinned
+    ensures { λ r. ⌜ Opening cycles (now (words .entry)) (now (session .entry)) (now (session .exit)) r ⌝ }
 {
-    open_in(words, session, lists)
+    open_in(words, cycles, session, lists)
 }
 
 // The same with memory of its own.
-pub fn open(words: &[i32], session: &mut Session) -> Pinned
-    ensures { λ r. ⌜ Opening (now (words .entry)) (now (session .entry)) (now (session .exit)) r ⌝ }
+pub fn open(words: &[i32], cycles: bool, session: &mut Session) -> Pinned
+    ensures { λ r. ⌜ Opening cycles (now (words .entry)) (now (session .entry)) (now (session .exit)) r ⌝ }
 {
     let mut lists = [0u16; heads::SIZE];
-    open_with(words, session, &mut lists)
+    open_with(words, cycles, session, &mut lists)
 }
 
-fn open_in(words: &[i32], s: &mut [i32], lists: &mut Lists) -> Pinned
-    requires { ⌜ length (now s) ≡ 16450 ⌝ }
-    ensures { λ r. ⌜ Opening (now (words .entry)) (now (s .entry)) (now (s .exit)) r ⌝ }
+fn open_in(words: &[i32], cycles: bool, s: &mut [i32], lists: &mut Lists) -> Pinned
+    requires { ⌜ length (now s) ≡ 16451 ⌝ }
+    ensures { λ r. ⌜ Opening cycles (now (words .entry)) (now (s .entry)) (now (s .exit)) r ⌝ }
 {
-    let judged = judging::judge_by(words, Buffer::Nothing, lists);
+    let judged = judging::judge_in(words, cycles, Buffer::Nothing, lists);
     let fault = judged.fault;
     match fault {
         Fault::Refused(f) => Pinned::Refused(f),
         Fault::Nothing => {
-            memory::fill(words, s);
+            memory::fill(words, cycles, s);
             Pinned::Done
         }
     }
@@ -72,7 +72,7 @@ fn is_inside(n: usize, p: usize) -> bool
 }
 
 fn pin_in(s: &mut [i32], atom: usize, value: bool) -> Pinned
-    requires { ⌜ length (now s) ≡ 16450 ⌝ }
+    requires { ⌜ length (now s) ≡ 16451 ⌝ }
     ensures { λ r. ⌜ Changing (pin atom value) (now (s .entry)) (now (s .exit)) r ⌝ }
 {
     let n = memory::number(s, 0, Table::ATOMS);
@@ -98,7 +98,7 @@ pub fn unpin(session: &mut Session) -> Pinned
 }
 
 fn unpin_in(s: &mut [i32]) -> Pinned
-    requires { ⌜ length (now s) ≡ 16450 ⌝ }
+    requires { ⌜ length (now s) ≡ 16451 ⌝ }
     ensures { λ r. ⌜ Changing unpin (now (s .entry)) (now (s .exit)) r ⌝ }
 {
     let held = memory::number(s, memory::HELD, memory::MOST);
@@ -139,13 +139,14 @@ fn plan_in(
     lists: &mut Lists,
     candidates: &mut Candidates,
 ) -> Solution
-    requires { ⌜ length (now s) ≡ 16450 ⌝ }
+    requires { ⌜ length (now s) ≡ 16451 ⌝ }
     ensures { λ r. ⌜ Plans (now (s .entry)) limit (now (plan .entry)) (now (plan .exit)) r ⌝ }
 {
     let count = memory::number(s, memory::COUNT, Table::WORDS);
     let words = &s[..count];
+    let cycles = memory::takes_cycles(s);
     let room = plan.len();
-    let judged = judging::judge_by(words, Buffer::Plan(room), lists);
+    let judged = judging::judge_in(words, cycles, Buffer::Plan(room), lists);
     let fault = judged.fault;
     match fault {
         Fault::Refused(f) => {
@@ -155,10 +156,10 @@ fn plan_in(
         }
         Fault::Nothing => {
             let tb = judged.table;
-            let found = setting::search(words, tb, lists, s, limit, candidates);
+            let found = setting::search(words, tb, cycles, lists, s, limit, candidates);
             let atoms = tb.atoms;
             let solved = solver::plans::report(found, atoms, plan);
-            let whys = solver::whys_for(words, tb, solved, found.it);
+            let whys = solver::whys_by(words, tb, cycles, solved, found.it);
             Solution { solved, whys }
         }
     }

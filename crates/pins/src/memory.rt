@@ -1,5 +1,5 @@
-// The memory of a session: 16,450 words. First the table's words, then how many they are, then how many pins are held, then the pins' words, in order. A pin's word
-// is its atom's number, and 256 more where the atom is pinned false. Any words may stand there: what no `open` made is read as `specs/Memory.antt` says.
+// The memory of a session: 16,451 words. First the table's words, then how many they are, then how many pins are held, then the pins' words, in order, then
+// the mode: 0 where head cycles are refused. A pin's word is its atom's number, and 256 more where the atom is pinned false. Any words may stand there: what no `open` made is read as `specs/Memory.antt` says.
 ghost use mathlib.Core.Path.{_≡_};
 ghost use mathlib.Core.List.{_++_};
 ghost use mathlib.Core.Bool.{Bool};
@@ -7,7 +7,7 @@ ghost use Prim.Native.Nat.{_+_, _≤_, _<_};
 ghost use lib.IntN.{pos};
 ghost use lib.ListN.{length, drop, set};
 ghost use Rattle.sessions.specs.Sessions.{isHeld};
-ghost use Rattle.pins.specs.Memory.{numberAt, wordAt, atomAs, valueAs, pinWord, pinsTo, withPin, withoutPin, openedWith, heldIn};
+ghost use Rattle.pins.specs.Memory.{numberAt, wordAt, atomAs, valueAs, pinWord, pinsTo, withPin, withoutPin, modeWord, cyclesIn, openedWith, heldIn};
 use layout::Table;
 
 // Where it stands how many words the table has.
@@ -22,8 +22,11 @@ pub const PINS: usize = HELD + 1;
 // "at most 64 pins"
 pub const MOST: usize = 64;
 
+// Where the mode stands.
+pub const MODE: usize = PINS + MOST;
+
 // All words of a session.
-pub const SIZE: usize = PINS + MOST;
+pub const SIZE: usize = MODE + 1;
 
 // A number that is kept at index i; one above `most` is none that a session keeps, and counts as 0.
 pub fn number(s: &[i32], i: usize, most: usize) -> usize
@@ -57,15 +60,36 @@ fn copy(words: &[i32], s: &mut [i32])
     }
 }
 
-// A new session: the words, and no pin.
-pub fn fill(words: &[i32], s: &mut [i32])
-    requires { ⌜ (length (now words) ≤ 16384) × (length (now s) ≡ 16450) ⌝ }
-    ensures { λ _. ⌜ now (s .exit) ≡ openedWith (now (words .entry)) (now (s .entry)) ⌝ }
+// A mode as it is kept.
+fn mode(cycles: bool) -> usize
+    ensures { λ r. ⌜ r ≡ modeWord cycles ⌝ }
+{
+    if cycles {
+        return 1;
+    }
+    0
+}
+
+// Whether the session takes head cycles (request 14): any word but 0 says so.
+pub fn takes_cycles(s: &[i32]) -> bool
+    requires { ⌜ length (now s) ≡ 16451 ⌝ }
+    ensures { λ r. ⌜ r ≡ cyclesIn (now (s .entry)) ⌝ }
+{
+    let n = words::atom(s, MODE);
+    n != 0
+}
+
+// A new session: the words, no pin, and the mode.
+pub fn fill(words: &[i32], cycles: bool, s: &mut [i32])
+    requires { ⌜ (length (now words) ≤ 16384) × (length (now s) ≡ 16451) ⌝ }
+    ensures { λ _. ⌜ now (s .exit) ≡ openedWith cycles (now (words .entry)) (now (s .entry)) ⌝ }
 {
     let count = words.len();
+    let kept = mode(cycles);
     copy(words, s);
     put(s, COUNT, count);
     put(s, HELD, 0);
+    put(s, MODE, kept);
 }
 
 // The atom of a pin's word.
@@ -80,7 +104,7 @@ fn atom_as(m: usize) -> usize
 
 // The atom of the pin at index i, from 0.
 pub fn atom_at(s: &[i32], i: usize) -> usize
-    requires { ⌜ (i < 64) × (length (now s) ≡ 16450) ⌝ }
+    requires { ⌜ (i < 64) × (length (now s) ≡ 16451) ⌝ }
     ensures { λ r. ⌜ r ≡ atomAs (wordAt (now (s .entry)) i) ⌝ }
 {
     let place = PINS + i;
@@ -89,7 +113,7 @@ pub fn atom_at(s: &[i32], i: usize) -> usize
 
 // Its value.
 pub fn value_at(s: &[i32], i: usize) -> bool
-    requires { ⌜ (i < 64) × (length (now s) ≡ 16450) ⌝ }
+    requires { ⌜ (i < 64) × (length (now s) ≡ 16451) ⌝ }
     ensures { λ r. ⌜ r ≡ valueAs (wordAt (now (s .entry)) i) ⌝ }
 {
     let place = PINS + i;
@@ -99,7 +123,7 @@ pub fn value_at(s: &[i32], i: usize) -> bool
 
 // Whether an atom is pinned.
 pub fn is_held(s: &[i32], held: usize, p: usize) -> bool
-    requires { ⌜ (held ≤ 64) × (length (now s) ≡ 16450) ⌝ }
+    requires { ⌜ (held ≤ 64) × (length (now s) ≡ 16451) ⌝ }
     ensures { λ r. ⌜ r ≡ isHeld p (pinsTo (now (s .entry)) held) ⌝ }
 {
     let mut i = held;
@@ -125,7 +149,7 @@ fn word(p: usize, v: bool) -> usize
 
 // One more pin.
 pub fn push(s: &mut [i32], held: usize, p: usize, v: bool)
-    requires { ⌜ (held < 64) × (held ≡ heldIn (now s)) × (p ≤ 256) × (length (now s) ≡ 16450) ⌝ }
+    requires { ⌜ (held < 64) × (held ≡ heldIn (now s)) × (p ≤ 256) × (length (now s) ≡ 16451) ⌝ }
     ensures { λ _. ⌜ now (s .exit) ≡ withPin p v (now (s .entry)) ⌝ }
 {
     let place = PINS + held;
@@ -137,7 +161,7 @@ pub fn push(s: &mut [i32], held: usize, p: usize, v: bool)
 
 // One pin fewer: the last one's word stays, and is read no more.
 pub fn pop(s: &mut [i32], held: usize)
-    requires { ⌜ (0 < held) × (held ≡ heldIn (now s)) × (held ≤ 64) × (length (now s) ≡ 16450) ⌝ }
+    requires { ⌜ (0 < held) × (held ≡ heldIn (now s)) × (held ≤ 64) × (length (now s) ≡ 16451) ⌝ }
     ensures { λ _. ⌜ now (s .exit) ≡ withoutPin (now (s .entry)) ⌝ }
 {
     let fewer = held - 1;

@@ -8,7 +8,7 @@ ghost use Rattle.layout.specs.Layout.{Laid};
 ghost use Rattle.heads.specs.Heads.{Listed, taking};
 ghost use Rattle.interpretation.specs.State.{setAt};
 ghost use Rattle.interpretation.specs.View.{view, valued};
-ghost use Rattle.search.specs.Base.{pinned};
+ghost use Rattle.smaller.specs.Cyclic.{problemBy};
 ghost use Rattle.sessions.specs.Sessions.{pinsOf};
 ghost use Rattle.jumping.specs.Jumping.{Solves};
 ghost use Rattle.pins.specs.Memory.{pinsIn, takenOf};
@@ -62,7 +62,7 @@ fn set(it: Interpretation, n: usize, p: usize, v: bool) -> Interpretation
 
 // Where the search starts.
 fn start(s: &[i32], n: usize) -> Interpretation
-    requires { ⌜ (n ≤ 256) × (length (now s) ≡ 16450) ⌝ }
+    requires { ⌜ (n ≤ 256) × (length (now s) ≡ 16451) ⌝ }
     ensures { λ r. ⌜ view r ≡ startWith (takenOf n (pinsIn (now (s .entry)))) ⌝ }
 {
     let held = memory::number(s, memory::HELD, memory::MOST);
@@ -81,13 +81,14 @@ fn start(s: &[i32], n: usize) -> Interpretation
 pub fn search(
     t: &[i32],
     tb: Table,
+    cycles: bool,
     lists: &Lists,
     s: &[i32],
     limit: u32,
     candidates: &mut Candidates,
 ) -> Found
-    requires { ⌜ Laid (now t) tb × Listed (now t) tb (now lists) × (length (now s) ≡ 16450) ⌝ }
-    ensures { λ r. ⌜ Solves (pinned (taking (now (t .entry)) (now (lists .entry))) (tb .atoms) (pinsOf (takenOf (tb .atoms) (pinsIn (now (s .entry)))))) limit r ⌝ }
+    requires { ⌜ Laid (now t) tb × Listed (now t) tb (now lists) × (length (now s) ≡ 16451) ⌝ }
+    ensures { λ r. ⌜ Solves (problemBy cycles (taking (now (t .entry)) (now (lists .entry))) (tb .atoms) (pinsOf (takenOf (tb .atoms) (pinsIn (now (s .entry)))))) limit r ⌝ }
 {
     let n = tb.atoms;
     let it = start(s, n);
@@ -98,6 +99,6 @@ pub fn search(
         passes: 0,
     };
     let reasons = levels::no_rows();
-    let halt = jumping::search_by(t, tb, false, lists, limit, from, reasons, candidates);
+    let halt = jumping::search_by(t, tb, cycles, lists, limit, from, reasons, candidates);
     halt.found
 }

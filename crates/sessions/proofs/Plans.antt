@@ -4,7 +4,7 @@
 --   plan-is-first        the plan is the first answer set that agrees with all pins;  plan-is-found: unless the limit stops it
 --   plan-none            none exactly if no answer set agrees with them, short of the limit
 --   plan-choices, plan-limit, plan-skips, plan-skipped, plan-skips≤choices, plan-alike    demand 3
---   pins-conflict        a conflict that rests on the pins alone has an empty reason, and ends with none, no choices and no skips
+--   pins-conflict        a conflict that rests on the pins alone has an empty reason, and ends with none, no choices and no skips, whatever the final test (request 14)
 --   start-cells          setting the pins in order makes the cells at which the search starts
 -- Assumes nothing.
 use mathlib.Core.Path.{_≡_, refl, sym, ap, _∙_, fun-ext, subst}
@@ -29,9 +29,9 @@ use Rattle.meaning.proofs.Order.{first-unique}
 use Rattle.levels.specs.Levels.{Levels, noLevels, highest}
 use Rattle.interpretation.specs.State.{Cell, defined, put}
 use Rattle.steps.specs.Steps.{conflict, propagate}
-use Rattle.search.specs.Search.{jump, plain, Result, answer, noAnswer, limit, Branch, branches, Outcome, end, settle, propagated, turn, cont, run, pinnedCell, start, solve}
+use Rattle.search.specs.Search.{Tested, Problem, jump, plain, Result, answer, noAnswer, limit, Branch, branches, Outcome, end, settle, propagated, turn, cont, run, pinnedCell, start, solve}
 use Rattle.search.specs.Laws.{Dead, Alike, Laws}
-use Rattle.search.specs.Base.{PinsIn, Agreeing, pinned}
+use Rattle.search.specs.Base.{PinsIn, Agreeing, pinned, withTest}
 use Rattle.search.proofs.Base.{pinned-laws}
 use Rattle.search.proofs.Invariant.{inv-start}
 use Rattle.search.proofs.Fuel.{start-less}
@@ -81,18 +81,19 @@ plan-refused n P pins room lim l = ap (λ (b : Bool). orRefused (first b 10 none
 
 -- ---- the theorems
 
-module _ (n : ℕ) (P : Program) (inside : AtomsIn n P) (noHead : Free HeadCycle P) (noAgg : Free AggregateCycle P) (pins : Pins) (G : Good n pins) where
+module _ (n : ℕ) (P : Program) (pins : Pins) (G : Good n pins) where
   pub agrees-e : (X : Atoms) → Agrees P pins X → Agreeing P (pinsOf pins) X
   agrees-e X A = record { isAnswer = A .isAnswer; agrees = λ p v e. let t = pins-e pins p v e in ap X (sym (t .2)) ∙ A .values (t .0) (t .1) ∙ t .3 }
 
   pub agrees-i : (X : Atoms) → Agreeing P (pinsOf pins) X → Agrees P pins X
   agrees-i X A = record { isAnswer = A .isAnswer; values = λ x m. A .agrees (x .atom) (x .value) (pins-i pins (G .differ) x m) }
 
-  pins-in : PinsIn n (pinsOf pins)
+  pub pins-in : PinsIn n (pinsOf pins)
   pins-in p v e = let t = pins-e pins p v e in subst (In n) (t .2) (G .insideAll (t .0) (t .1))
 
+module _ (n : ℕ) (P : Program) (inside : AtomsIn n P) (noHead : Free HeadCycle P) (noAgg : Free AggregateCycle P) (pins : Pins) (G : Good n pins) where
   pub session-laws : Laws (Agreeing P (pinsOf pins)) (pinned P n (pinsOf pins))
-  session-laws = pinned-laws n P inside noHead noAgg (pinsOf pins) pins-in
+  session-laws = pinned-laws n P inside noHead noAgg (pinsOf pins) (pins-in n P pins G)
 
   module _ (lim : ℕ) where
     pub plan-ends : (o : Outcome) × (solve (pinned P n (pinsOf pins)) jump lim ≡ some o)
@@ -102,10 +103,10 @@ module _ (n : ℕ) (P : Program) (inside : AtomsIn n P) (noHead : Free HeadCycle
       pub plan-is-first : (X : Atoms) → o .result ≡ answer X → Agrees P pins X × First n (Agrees P pins) X
       plan-is-first X f =
           let t = Theorems.answer-is-first (Agreeing P (pinsOf pins)) (pinned P n (pinsOf pins)) session-laws lim jump o e refl X f in
-          (agrees-i X (t .0), λ Z A. t .1 Z (agrees-e Z A))
+          (agrees-i n P pins G X (t .0), λ Z A. t .1 Z (agrees-e n P pins G Z A))
 
       none-of : o .result ≡ noAnswer → (X : Atoms) → Agrees P pins X → ⊥
-      none-of f X A = Theorems.none-means-none (Agreeing P (pinsOf pins)) (pinned P n (pinsOf pins)) session-laws lim jump o e f X (agrees-e X A)
+      none-of f X A = Theorems.none-means-none (Agreeing P (pinsOf pins)) (pinned P n (pinsOf pins)) session-laws lim jump o e f X (agrees-e n P pins G X A)
 
       pub plan-is-found : (Z : Atoms) → Agrees P pins Z → First n (Agrees P pins) Z → o .result ≢ limit → o .result ≡ answer Z
       plan-is-found Z a f k = at (o .result) refl
@@ -133,7 +134,7 @@ module _ (n : ℕ) (P : Program) (inside : AtomsIn n P) (noHead : Free HeadCycle
       plan-skips = Theorems.skips-count (Agreeing P (pinsOf pins)) (pinned P n (pinsOf pins)) session-laws lim jump o e
 
       pub plan-skipped : (b : Branch) → b ∈ o .skipped → Dead (Agrees P pins) b
-      plan-skipped b m X A = Theorems.skipped-hold-none (Agreeing P (pinsOf pins)) (pinned P n (pinsOf pins)) session-laws lim jump o e b m X (agrees-e X A)
+      plan-skipped b m X A = Theorems.skipped-hold-none (Agreeing P (pinsOf pins)) (pinned P n (pinsOf pins)) session-laws lim jump o e b m X (agrees-e n P pins G X A)
 
       pub plan-skips≤choices : o .skips ≤ o .choices
       plan-skips≤choices = Skips.skips≤choices (pinned P n (pinsOf pins)) jump lim o e
@@ -141,32 +142,36 @@ module _ (n : ℕ) (P : Program) (inside : AtomsIn n P) (noHead : Free HeadCycle
     pub plan-alike : (oj op : Outcome) → solve (pinned P n (pinsOf pins)) jump lim ≡ some oj → solve (pinned P n (pinsOf pins)) plain lim ≡ some op → Alike oj op
     plan-alike oj op e f = Theorems.jump≤plain (Agreeing P (pinsOf pins)) (pinned P n (pinsOf pins)) session-laws lim oj op e f
 
-    -- ---- a conflict that rests on pins alone
+-- ---- a conflict that rests on pins alone, whatever the final test
 
-    module _ (C : Levels) (e : (propagate P n (start (pinned P n (pinsOf pins)) .interpretation) (start (pinned P n (pinsOf pins)) .reason)) .verdict ≡ conflict C) where
-      pub pins-reason : C ≡ noLevels
-      pins-reason = fun-ext (λ l. contra (C l) {b = false} (λ h. absurd (out l h)) refl)
-        where
-          out : (l : ℕ) → C l ≡ true → ⊥
-          out l h =
-              let w = session-laws .conflictReason (Agreeing P (pinsOf pins)) (λ X A. A) (start (pinned P n (pinsOf pins)) .interpretation) (start (pinned P n (pinsOf pins)) .reason)
-              (inv-start (Agreeing P (pinsOf pins)) (pinned P n (pinsOf pins)) (λ X A. A .agrees)) C e .1 l h in
-              let a = w .0 in
-              let b = w .1 in
-              omega arith
+module _ (n : ℕ) (P : Program) (test : ℕ → Atoms → Tested) (pins : Pins) (L : Laws (Agreeing P (pinsOf pins)) (withTest test P n (pinsOf pins))) (lim : ℕ) where
+  abbrev Q : Problem
+  Q = withTest test P n (pinsOf pins)
 
-      -- what the only propagation took
-      abbrev firstPasses : ℕ
-      firstPasses = max 0 ((propagate P n (start (pinned P n (pinsOf pins)) .interpretation) (start (pinned P n (pinsOf pins)) .reason)) .passes)
+  module _ (C : Levels) (e : (propagate P n (start Q .interpretation) (start Q .reason)) .verdict ≡ conflict C) where
+    pub pins-reason : C ≡ noLevels
+    pins-reason = fun-ext (λ l. contra (C l) {b = false} (λ h. absurd (out l h)) refl)
+      where
+        out : (l : ℕ) → C l ≡ true → ⊥
+        out l h =
+            let w = L .conflictReason (Agreeing P (pinsOf pins)) (λ X A. A) (start Q .interpretation) (start Q .reason)
+            (inv-start (Agreeing P (pinsOf pins)) Q (λ X A. A .agrees)) C e .1 l h in
+            let a = w .0 in
+            let b = w .1 in
+            omega arith
 
-      turn-ends : turn (pinned P n (pinsOf pins)) jump lim (start (pinned P n (pinsOf pins))) ≡ end (record { result = noAnswer; choices = 0; skips = 0; passes = firstPasses; skipped = [] })
-      unfolding turn highest branches
-      turn-ends = ap (settle (pinned P n (pinsOf pins)) jump lim (propagated (pinned P n (pinsOf pins)) (start (pinned P n (pinsOf pins))))) e
+    -- what the only propagation took
+    abbrev firstPasses : ℕ
+    firstPasses = max 0 ((propagate P n (start Q .interpretation) (start Q .reason)) .passes)
 
-      pub pins-conflict : solve (pinned P n (pinsOf pins)) jump lim ≡ some (record { result = noAnswer; choices = 0; skips = 0; passes = firstPasses; skipped = [] })
-      unfolding solve
-      pins-conflict = with-fuel (suc lim * suc n) (let l = start-less (pinned P n (pinsOf pins)) jump lim n in omega arith)
-        where
-          with-fuel : (f : ℕ) → 1 ≤ f → run (pinned P n (pinsOf pins)) jump lim f (start (pinned P n (pinsOf pins))) ≡ some (record { result = noAnswer; choices = 0; skips = 0; passes = firstPasses; skipped = [] })
-          with-fuel zero l = absurd (omega arith)
-          with-fuel (suc f) l = unfold run in ap (cont (run (pinned P n (pinsOf pins)) jump lim f)) turn-ends
+    turn-ends : turn Q jump lim (start Q) ≡ end (record { result = noAnswer; choices = 0; skips = 0; passes = firstPasses; skipped = [] })
+    unfolding turn highest branches
+    turn-ends = ap (settle Q jump lim (propagated Q (start Q))) e
+
+    pub pins-conflict : solve Q jump lim ≡ some (record { result = noAnswer; choices = 0; skips = 0; passes = firstPasses; skipped = [] })
+    unfolding solve
+    pins-conflict = with-fuel (suc lim * suc n) (let l = start-less Q jump lim n in omega arith)
+      where
+        with-fuel : (f : ℕ) → 1 ≤ f → run Q jump lim f (start Q) ≡ some (record { result = noAnswer; choices = 0; skips = 0; passes = firstPasses; skipped = [] })
+        with-fuel zero l = absurd (omega arith)
+        with-fuel (suc f) l = unfold run in ap (cont (run Q jump lim f)) turn-ends

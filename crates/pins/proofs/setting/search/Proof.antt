@@ -10,7 +10,7 @@ use Rattle.interpretation.specs.State.{Cell, Interpretation}
 use Rattle.interpretation.specs.View.{view}
 use Rattle.heads.specs.Heads.{taking}
 use Rattle.search.specs.Search.{State, start}
-use Rattle.search.specs.Base.{pinned}
+use Rattle.smaller.specs.Cyclic.{problemBy}
 use Rattle.jumping.specs.Jumping.{Ordered, stateOf}
 use Rattle.jumping.proofs.Leading.{solves-by}
 use Rattle.sessions.specs.Sessions.{Pins, settings, pinsOf, cellsOf}
@@ -44,7 +44,7 @@ returns c =
     let i = n .before in
     let a = i .before .args in
     let pins = takenOf (a .tb .atoms) (pinsIn (a .s .now)) in
-    let P = pinned (taking (a .t .now) (a .lists .now)) (a .tb .atoms) (pinsOf pins) in
+    let P = problemBy (a .cycles) (taking (a .t .now) (a .lists .now)) (a .tb .atoms) (pinsOf pins) in
     let cell : view (i .start .result) .cell ≡ start P .interpretation .cell = ap (λ (x : Interpretation). x .cell) (i .start .ensures) ∙ start-cells pins in
     let f : record { interpretation = view (i .start .result); reason = rows (n .no-rows .result); choices = 0; skips = 0; passes = 0; skipped = [] } ≡ start P = λ j. record {
       interpretation = record { level = i .start .ensures j .level; choice = i .start .ensures j .choice; cell = cell j };
@@ -54,7 +54,7 @@ returns c =
       passes = 0;
       skipped = [];
     } in
-    solves-by P (a .limit) _ (r .result) f (searched-pinned (taking (a .t .now) (a .lists .now)) (a .tb .atoms) (pinsOf pins) (a .limit) _ (r .result) (r .ensures []))
+    solves-by P (a .limit) _ (r .result) f (searched-pinned (a .cycles) (taking (a .t .now) (a .lists .now)) (a .tb .atoms) (pinsOf pins) (a .limit) _ (r .result) (r .ensures []))
 
 pub search-spec : {M : Type 1} → statement M
 search-spec = tie.close (tie.spec start-requires no-rows-requires search-by-requires returns)
