@@ -18,11 +18,11 @@ use Rattle.results.specs.declared.Solved.{Solved}
 use Rattle.results.specs.declared.Solved.the-variants as solved
 use Rattle.results.specs.Results.{listedOf, kindOf}
 use Rattle.search.specs.Search.{Problem, Result, answer, noAnswer, limit, jump, Outcome}
-use Rattle.search.specs.Base.{base}
+use Rattle.smaller.specs.Cyclic.{baseBy}
 use Rattle.search.specs.Listing as listing
 use Rattle.table.specs.Contents.{Contents, program}
 use Rattle.judging.specs.declared.Buffer.the-variants.{Plan, Rows}
-use Rattle.judging.specs.Refusals.{Accepted}
+use Rattle.judging.specs.Refusals.{AcceptedBy}
 use Rattle.judging.proofs.Places.{ranges}
 use Rattle.promises.specs.Plans.{bytesFrom, planWith}
 use Rattle.promises.specs.Promises.{solvedBy, counted, planAfter, Searching}
@@ -45,19 +45,19 @@ row-first n le X rest old =
     ap (take 256) (append-assoc (rowOf n X) (rowsOf n rest) (drop (256 * length (X ∷ rest)) old))
     ∙ take-at (rowOf n X) (rowsOf n rest ++ drop (256 * length (X ∷ rest)) old) 256 (row-length n le X)
 
-module _ (t : List ℤ) (ask : Ask) (old new : List ℕ) (r : Listed) (plan shown : List ℕ) (s : Solved) (c : Contents) (a : Accepted t (Rows (length old)) c) (b : Accepted t (Plan (length plan)) c)
+module _ (t : List ℤ) (ask : Ask) (old new : List ℕ) (r : Listed) (plan shown : List ℕ) (s : Solved) (c : Contents) (a : AcceptedBy (ask .cycles) t (Rows (length old)) c) (b : AcceptedBy (ask .cycles) t (Plan (length plan)) c)
     (room : 256 ≤ length old) (L : Listing t ask old new r) (S : Solving t ask plan shown s) where
   o : Outcome
   o = S .searching c b .0
 
-  searched : Searching (AnswerSet (program c)) (base (program c) (c .atoms)) s o (ask .limit) plan shown
+  searched : Searching (AnswerSet (program c)) (baseBy (ask .cycles) (program c) (c .atoms)) s o (ask .limit) plan shown
   unfolding o
   searched = S .searching c b .1
 
   q : listing.Listed
   q = L .searching c a .0
 
-  listed : ListSearching (AnswerSet (program c)) (base (program c) (c .atoms)) r q (ask .limit) old new
+  listed : ListSearching (AnswerSet (program c)) (baseBy (ask .cycles) (program c) (c .atoms)) r q (ask .limit) old new
   unfolding q
   listed = L .searching c a .1
 
@@ -67,9 +67,9 @@ module _ (t : List ℤ) (ask : Ask) (old new : List ℕ) (r : Listed) (plan show
   k : ℕ
   k = rooms old - 1
 
-  lists : listing.listAll (base (program c) (c .atoms)) jump (ask .limit) (suc k) ≡ some q
+  lists : listing.listAll (baseBy (ask .cycles) (program c) (c .atoms)) jump (ask .limit) (suc k) ≡ some q
   unfolding k
-  lists = let e : rooms old ≡ suc (rooms old - 1) = omega arith in ap (listing.listAll (base (program c) (c .atoms)) jump (ask .limit)) (sym e) ∙ listed .jumping
+  lists = let e : rooms old ≡ suc (rooms old - 1) = omega arith in ap (listing.listAll (baseBy (ask .cycles) (program c) (c .atoms)) jump (ask .limit)) (sym e) ∙ listed .jumping
 
   told : (x : Result) → o .result ≡ x → s ≡ solvedBy x (counted o)
   told x i = searched .result ∙ ap (λ (y : Result). solvedBy y (counted o)) i
@@ -82,7 +82,7 @@ module _ (t : List ℤ) (ask : Ask) (old new : List ℕ) (r : Listed) (plan show
 
   answered : (m : Counts) → s ≡ solved.Answer m → (x : Result) → o .result ≡ x → (1 ≤ listedOf r) × Same
   answered m h (answer X) i =
-      let w = first-plan (base (program c) (c .atoms)) jump (ask .limit) k o (searched .jumping) q lists X i in
+      let w = first-plan (baseBy (ask .cycles) (program c) (c .atoms)) jump (ask .limit) k o (searched .jumping) q lists X i in
       let n : length (q .plans) ≡ suc (length (w .0)) = ap length (w .1) in
       let e = number in (
         omega arith,
@@ -104,8 +104,8 @@ module _ (t : List ℤ) (ask : Ask) (old new : List ℕ) (r : Listed) (plan show
 
   listed-by : 1 ≤ listedOf r → (x : Result) → o .result ≡ x → (m : Counts) × (s ≡ solved.Answer m)
   listed-by l (answer X) i = (counted o, told (answer X) i)
-  listed-by l noAnswer i = absurd (nothing (no-plan (base (program c) (c .atoms)) jump (ask .limit) k o (searched .jumping) q lists noAnswer i (λ X e. let z : _≡_ {A = ℕ} 0 1 = cc in omega arith)) l)
-  listed-by l limit i = absurd (nothing (no-plan (base (program c) (c .atoms)) jump (ask .limit) k o (searched .jumping) q lists limit i (λ X e. let z : _≡_ {A = ℕ} 0 1 = cc in omega arith)) l)
+  listed-by l noAnswer i = absurd (nothing (no-plan (baseBy (ask .cycles) (program c) (c .atoms)) jump (ask .limit) k o (searched .jumping) q lists noAnswer i (λ X e. let z : _≡_ {A = ℕ} 0 1 = cc in omega arith)) l)
+  listed-by l limit i = absurd (nothing (no-plan (baseBy (ask .cycles) (program c) (c .atoms)) jump (ask .limit) k o (searched .jumping) q lists limit i (λ X e. let z : _≡_ {A = ℕ} 0 1 = cc in omega arith)) l)
 
   pub row-answered : 1 ≤ listedOf r → (m : Counts) × (s ≡ solved.Answer m)
   row-answered l = listed-by l (o .result) refl

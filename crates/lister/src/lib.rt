@@ -27,13 +27,13 @@ pub fn list_with(
     ensures { λ r. ⌜ Listing (now (words .entry)) ask (now (rows .entry)) (now (rows .exit)) r ⌝ }
 {
     let room = rows.len();
-    let judged = judging::judge_by(words, Buffer::Rows(room), lists);
+    let judged = judging::judge_in(words, ask.cycles, Buffer::Rows(room), lists);
     let fault = judged.fault;
     match fault {
         Fault::Refused(f) => Listed::Refused(f),
         Fault::Nothing => {
             let tb = judged.table;
-            let told = listing::list_by(words, tb, false, lists, ask.limit, rows, candidates);
+            let told = listing::list_by(words, tb, ask.cycles, lists, ask.limit, rows, candidates);
             result(told)
         }
     }
