@@ -17,7 +17,7 @@ use Rattle.valuing.specs.Values.{saysTrue}
 use Rattle.steps.specs.Steps.{Verdict, settled, conflict, isSettled, propagate}
 use Rattle.search.specs.Search.{openedAs}
 use Rattle.search.specs.Engine.{Tried, halted, noReasons, byTest, orOther, opens, goesOn, tries}
-use Rattle.search.specs.Base.{foundedTest, base}
+use Rattle.smaller.specs.Cyclic.{testBy, baseBy}
 use Rattle.plain.specs.Passes.{Alike}
 use Rattle.plain.proofs.Liking.{put-alike, propagate-cells, propagate-verdict}
 
@@ -58,25 +58,25 @@ module _ (a b : ℕ → Cell) (h : Alike a b) where
 
 -- ---- a side depends on the values alone
 
-module _ (P : Program) (n lim : ℕ) where
+module _ (cycles : Bool) (P : Program) (n lim : ℕ) where
   abbrev Same : ℕ → Type 0
-  Same u = (i j : Interpretation) (k : ℕ) → Alike (i .cell) (j .cell) → tries (base P n) lim u i k ≡ tries (base P n) lim u j k
+  Same u = (i j : Interpretation) (k : ℕ) → Alike (i .cell) (j .cell) → tries (baseBy cycles P n) lim u i k ≡ tries (baseBy cycles P n) lim u j k
 
   module _ (u : ℕ) (rec : Same u) where
     abbrev side : Interpretation → ℕ → Tried
-    side = tries (base P n) lim u
+    side = tries (baseBy cycles P n) lim u
 
-    opens-at : (i j : Interpretation) (k : ℕ) → Alike (i .cell) (j .cell) → (o : Option ℕ) → opens (base P n) lim side i k o ≡ opens (base P n) lim side j k o
-    opens-at i j k h none = ap (λ (X : Atoms). byTest X k (foundedTest P n (lim - k) X)) (true-alike (i .cell) (j .cell) h n)
+    opens-at : (i j : Interpretation) (k : ℕ) → Alike (i .cell) (j .cell) → (o : Option ℕ) → opens (baseBy cycles P n) lim side i k o ≡ opens (baseBy cycles P n) lim side j k o
+    opens-at i j k h none = ap (λ (X : Atoms). byTest X k (testBy cycles P n (lim - k) X)) (true-alike (i .cell) (j .cell) h n)
     opens-at i j k h (some p) =
         ap (λ (r : Tried). ifLt k lim r halted)
         (ap₂ orOther (rec (openedAs true p i) (openedAs true p j) (suc k) (put-alike p true (suc (i .level)) (suc (j .level)) (i .cell) (j .cell) h))
         (fun-ext (λ m. rec (setAt p false i) (setAt p false j) m (put-alike p false (i .level) (j .level) (i .cell) (j .cell) h))))
 
-    opens-alike : (i j : Interpretation) (k : ℕ) → Alike (i .cell) (j .cell) → opens (base P n) lim side i k (lowest (i .cell) n) ≡ opens (base P n) lim side j k (lowest (j .cell) n)
-    opens-alike i j k h = opens-at i j k h (lowest (i .cell) n) ∙ ap (opens (base P n) lim side j k) (lowest-alike (i .cell) (j .cell) h n)
+    opens-alike : (i j : Interpretation) (k : ℕ) → Alike (i .cell) (j .cell) → opens (baseBy cycles P n) lim side i k (lowest (i .cell) n) ≡ opens (baseBy cycles P n) lim side j k (lowest (j .cell) n)
+    opens-alike i j k h = opens-at i j k h (lowest (i .cell) n) ∙ ap (opens (baseBy cycles P n) lim side j k) (lowest-alike (i .cell) (j .cell) h n)
 
-    pub goes-alike : (i j : Interpretation) (k : ℕ) → Alike (i .cell) (j .cell) → (v w : Verdict) → isSettled v ≡ isSettled w → goesOn (base P n) lim side i k v ≡ goesOn (base P n) lim side j k w
+    pub goes-alike : (i j : Interpretation) (k : ℕ) → Alike (i .cell) (j .cell) → (v w : Verdict) → isSettled v ≡ isSettled w → goesOn (baseBy cycles P n) lim side i k v ≡ goesOn (baseBy cycles P n) lim side j k w
     goes-alike i j k h settled settled e = opens-alike i j k h
     goes-alike i j k h settled (conflict C) e = absurd (clash (sym e) refl)
     goes-alike i j k h (conflict C) settled e = absurd (clash e refl)

@@ -2,7 +2,7 @@
 --   tried            a side: propagation, and then a choice
 --   conflict-side, tested-all, at-limit, first-ends, other-side      what a choice comes to
 --   fewer            a choice leaves fewer atoms undefined; propagation leaves no more (`no-more`)
---   passes-test, fails-test                                          the final test
+--   passes-test, fails-test, limit-test                              the final test;  spends: it spends no more choices than are left
 --   found-outcome    what the side of no choice at all holds is what the plain search ends with
 -- Assumes nothing.
 use Prim.Native.Nat.{ℕ, zero, suc, _+_, _-_, _≤_, _<_}
@@ -17,7 +17,6 @@ use lib.ListN.{replicate}
 use Rattle.meaning.specs.Cond.{ifLt}
 use Rattle.meaning.specs.Aggregates.{Atoms}
 use Rattle.meaning.specs.Answers.{AnswerSet}
-use Rattle.meaning.specs.Foundedness.{founded}
 use Rattle.meaning.specs.Program.{Program, AtomsIn}
 use Rattle.meaning.proofs.Cond.{ifLt-yes, ifLt-no}
 use Rattle.interpretation.specs.State.{Cell, undefined, defined, Interpretation, put, setAt, lowest, trueAtoms, withCells}
@@ -32,11 +31,12 @@ use Rattle.layout.specs.declared.Table.{Table}
 use Rattle.layout.specs.Layout.{programOf}
 use Rattle.steps.specs.Steps as steps
 use Rattle.steps.specs.Steps.{Verdict, isSettled, Propagated, passes, begin, propagate}
-use Rattle.search.specs.Search.{Problem, Result, noAnswer, limit, Outcome, openedAs, plain, start, solve}
+use Rattle.search.specs.Search.{Tested, passed, failed, exhausted, Problem, Result, noAnswer, limit, Outcome, openedAs, plain, start, solve}
 use Rattle.search.specs.Laws.{Laws}
 use Rattle.search.specs.Engine as engine
 use Rattle.search.specs.Engine.{Tried, nothing, halted, noReasons, byTest, orOther, opens, goesOn, tries}
-use Rattle.search.specs.Base.{verdictOf, base}
+use Rattle.smaller.specs.Cyclic.{testBy, baseBy}
+use Rattle.smaller.proofs.Modes.{spentBy, test-spends}
 use Rattle.search.proofs.Engine.{engine-right}
 use Rattle.search.proofs.Theorems.{limit-is-reached}
 use Rattle.search.proofs.Parts.{lowest-some}
@@ -65,7 +65,8 @@ module _ (n lim : ℕ) (old new : List ℕ) (r : Solved) where
   or-first (nothing k) other T m = absurd (m (ap kindOf (T .result)))
   or-first halted other T m = refl
 
-module _ (t : List ℤ) (tb : Table) (lim : ℕ) where
+-- in either mode
+module _ (cycles : Bool) (t : List ℤ) (tb : Table) (lim : ℕ) where
   abbrev P : Program
   P = programOf t tb
 
@@ -73,7 +74,7 @@ module _ (t : List ℤ) (tb : Table) (lim : ℕ) where
   n = tb .atoms
 
   abbrev B : Problem
-  B = base (programOf t tb) (tb .atoms)
+  B = baseBy cycles (programOf t tb) (tb .atoms)
 
   -- ---- a side: propagation, and then a choice
 
@@ -109,11 +110,11 @@ module _ (t : List ℤ) (tb : Table) (lim : ℕ) where
         → goesOn B lim (tries B lim (u - 1)) (bare (s .values)) (s .choices) (verdictBy (s .conflict)) ≡ tries B lim u (bare (side .values)) (side .choices)
     goes u h =
         ap (λ (k : ℕ). goesOn B lim (tries B lim (u - 1)) (bare (s .values)) k (verdictBy (s .conflict))) (S .kept)
-        ∙ goes-alike P n lim (u - 1) (tries-alike P n lim (u - 1)) (bare (s .values)) at (side .choices) cells (verdictBy (s .conflict)) (after .verdict)
+        ∙ goes-alike cycles P n lim (u - 1) (tries-alike cycles P n lim (u - 1)) (bare (s .values)) at (side .choices) cells (verdictBy (s .conflict)) (after .verdict)
         (propagated-verdict P n (bare (side .values)) noReasons (workOf s) begun)
         ∙ sym (tries-on u h)
 
-    pub tried : AtomsIn n P → (old new : List ℕ) (r : Solved) → Chosen t tb lim s old new r → Sided t tb lim side old new r
+    pub tried : AtomsIn n P → (old new : List ℕ) (r : Solved) → Chosen cycles t tb lim s old new r → Sided cycles t tb lim side old new r
     tried A old new r C = record {
       says = λ u h.
           (let l = no-more A in
@@ -127,7 +128,7 @@ module _ (t : List ℤ) (tb : Table) (lim : ℕ) where
     -- by whether propagation met a conflict
     chosen : (b : Bool) → side .conflict ≡ b
         → ((u : ℕ) → undefinedTo n (valued (side .values)) ≤ u → Told n lim (goesOn B lim (tries B lim u) (bare (side .values)) (side .choices) (verdictBy b)) old new r)
-        → countsOf r .choices ≤ lim → Chosen t tb lim side old new r
+        → countsOf r .choices ≤ lim → Chosen cycles t tb lim side old new r
     chosen b e f few = record {
       says = λ u h. subst (λ (c : Bool). Told n lim (goesOn B lim (tries B lim u) (bare (side .values)) (side .choices) (verdictBy c)) old new r) (sym e) (f u h);
       few = few;
@@ -140,16 +141,16 @@ module _ (t : List ℤ) (tb : Table) (lim : ℕ) where
     abbrev opening : ℕ → Tried
     opening u = opens B lim (tries B lim u) (bare (side .values)) (side .choices) (lowest (valued (side .values)) n)
 
-    pub conflict-side : side .conflict ≡ true → side .choices ≤ lim → (old : List ℕ) (c : Counts) → c ≡ plainCounts (side .choices) → Chosen t tb lim side old old (solved.Nothing c)
+    pub conflict-side : side .conflict ≡ true → side .choices ≤ lim → (old : List ℕ) (c : Counts) → c ≡ plainCounts (side .choices) → Chosen cycles t tb lim side old old (solved.Nothing c)
     conflict-side z few old c e =
         chosen side old old (solved.Nothing c) true z (λ u h. record { result = ap solved.Nothing e; plan = refl }) (subst (λ (x : Counts). x .choices ≤ lim) (sym e) few)
 
-    pub tested-all : side .conflict ≡ false → lowest (valued (side .values)) n ≡ none → side .choices ≤ lim → (old new : List ℕ) (r : Solved) → Tests t tb (side .values) (side .choices) old new r
-        → Chosen t tb lim side old new r
-    tested-all z l few old new r T =
+    pub tested-all : side .conflict ≡ false → lowest (valued (side .values)) n ≡ none → (old new : List ℕ) (r : Solved) → Tests cycles t tb lim (side .values) (side .choices) old new r
+        → Chosen cycles t tb lim side old new r
+    tested-all z l old new r T =
         chosen side old new r false z
-        (λ u h. subst (λ (e : Tried). Told n lim e old new r) (ap (opens B lim (tries B lim u) (bare (side .values)) (side .choices)) (sym l)) (T .says lim))
-        (let e = T .same in omega arith)
+        (λ u h. subst (λ (e : Tried). Told n lim e old new r) (ap (opens B lim (tries B lim u) (bare (side .values)) (side .choices)) (sym l)) (T .says))
+        (T .few)
 
     module _ (z : side .conflict ≡ false) (p : ℕ) (l : lowest (valued (side .values)) n ≡ some p) where
       abbrev sides : ℕ → Tried
@@ -158,7 +159,7 @@ module _ (t : List ℤ) (tb : Table) (lim : ℕ) where
       opened : (u : ℕ) → k < lim → opening u ≡ sides u
       opened u h = ap (opens B lim (tries B lim u) (bare (side .values)) k) l ∙ ifLt-yes k lim (sides u) halted h
 
-      pub at-limit : lim ≤ side .choices → side .choices ≤ lim → (old : List ℕ) (c : Counts) → c ≡ plainCounts (side .choices) → Chosen t tb lim side old old (solved.Limit c)
+      pub at-limit : lim ≤ side .choices → side .choices ≤ lim → (old : List ℕ) (c : Counts) → c ≡ plainCounts (side .choices) → Chosen cycles t tb lim side old old (solved.Limit c)
       at-limit h few old c e =
           let y : side .choices ≡ lim = omega arith in
           chosen side old old (solved.Limit c) false z
@@ -186,11 +187,11 @@ module _ (t : List ℤ) (tb : Table) (lim : ℕ) where
         alike m q = put-alike p v m 0 (valued (side .values)) (valued (side .values)) (λ q. refl) q ∙ sym (S .cells q)
 
       module _ (h : side .choices < lim) (yes : Side) (S : Like (workOf yes) (steps.set p true noLevels (workOf side))) (one : yes .choices ≡ side .choices + 1)
-          (old mid : List ℕ) (first : Solved) (F : Sided t tb lim yes old mid first) where
+          (old mid : List ℕ) (first : Solved) (F : Sided cycles t tb lim yes old mid first) where
         first-side : (u : ℕ) → tries B lim u (openedAs true p (bare (side .values))) (suc k) ≡ tries B lim u (bare (yes .values)) (yes .choices)
         first-side u =
             let e : suc k ≡ yes .choices = omega arith in
-            tries-alike P n lim u (openedAs true p (bare (side .values))) (bare (yes .values)) (suc k) (alike true yes S 1) ∙ ap (tries B lim u (bare (yes .values))) e
+            tries-alike cycles P n lim u (openedAs true p (bare (side .values))) (bare (yes .values)) (suc k) (alike true yes S 1) ∙ ap (tries B lim u (bare (yes .values))) e
 
         by-first : (u : ℕ) → undefinedTo n (valued (side .values)) ≤ u → Told n lim (tries B lim u (bare (yes .values)) (yes .choices)) old mid first
         by-first u g = let f = fewer true yes S in F .says u (omega arith)
@@ -199,7 +200,7 @@ module _ (t : List ℤ) (tb : Table) (lim : ℕ) where
         first-then u = opened u h ∙ ap (λ (x : Tried). orOther x (λ m. tries B lim u (setAt p false (bare (side .values))) m)) (first-side u)
 
         -- the first side ends the search
-        pub first-ends : kindOf first ≢ 1 → Chosen t tb lim side old mid first
+        pub first-ends : kindOf first ≢ 1 → Chosen cycles t tb lim side old mid first
         first-ends m =
             chosen side old mid first false z
             (λ u g.
@@ -219,8 +220,8 @@ module _ (t : List ℤ) (tb : Table) (lim : ℕ) where
           pub few-first : c .choices ≤ lim
           few-first = subst (λ (x : Solved). countsOf x .choices ≤ lim) i (F .few)
 
-          pub other-side : (nay : Side) → Like (workOf nay) (steps.set p false noLevels (workOf side)) → nay .choices ≡ c .choices → (new : List ℕ) (second : Solved) → Sided t tb lim nay mid new second
-              → Chosen t tb lim side old new second
+          pub other-side : (nay : Side) → Like (workOf nay) (steps.set p false noLevels (workOf side)) → nay .choices ≡ c .choices → (new : List ℕ) (second : Solved) → Sided cycles t tb lim nay mid new second
+              → Chosen cycles t tb lim side old new second
           other-side nay N same new second G =
               chosen side old new second false z
               (λ u g.
@@ -228,35 +229,42 @@ module _ (t : List ℤ) (tb : Table) (lim : ℕ) where
               subst (λ (x : Tried). Told n lim x old new second)
               (sym
               (first-then u ∙ ap (λ (x : Tried). orOther x (λ m. tries B lim u (setAt p false (bare (side .values))) m)) (nothing-first u g .0)
-              ∙ tries-alike P n lim u (setAt p false (bare (side .values))) (bare (nay .values)) (c .choices) (alike false nay N 0)
+              ∙ tries-alike cycles P n lim u (setAt p false (bare (side .values))) (bare (nay .values)) (c .choices) (alike false nay N 0)
               ∙ ap (tries B lim u (bare (nay .values))) (sym same)))
               (subst (λ (b : List ℕ). Told n lim (tries B lim u (bare (nay .values)) (nay .choices)) b new second) as-was (G .says u (omega arith)))))
               (G .few)
 
 -- ---- the final test
 
-module _ (t : List ℤ) (tb : Table) (values : List ℕ) (choices : ℕ) (old : List ℕ) (c : Counts) (e : c ≡ plainCounts choices) where
+module _ (cycles : Bool) (t : List ℤ) (tb : Table) (A : AtomsIn (tb .atoms) (programOf t tb)) (lim : ℕ) (values : List ℕ) (choices : ℕ) (few : choices ≤ lim) where
   abbrev X : Atoms
   X = trueAtoms (tb .atoms) (valued values)
 
-  -- what is told by the test's result
-  abbrev ends : Bool → Tried
-  ends f = byTest X choices (verdictOf f)
+  abbrev said : Tested
+  said = testBy cycles (programOf t tb) (tb .atoms) (lim - choices) X
 
-  tests : (f : Bool) → founded (programOf t tb) (tb .atoms) X ≡ f → (new : List ℕ) (r : Solved) → ((lim : ℕ) → Told (tb .atoms) lim (ends f) old new r) → countsOf r .choices ≡ choices
-      → Tests t tb values choices old new r
-  tests f z new r T same = record { says = λ lim. subst (λ (b : Bool). Told (tb .atoms) lim (ends b) old new r) (sym z) (T lim); same = same }
+  -- what the test spends was left
+  pub spends : (x : Tested) → said ≡ x → choices + spentBy x ≤ lim
+  spends x z = let h = subst (λ (y : Tested). spentBy y ≤ lim - choices) z (test-spends (tb .atoms) (programOf t tb) A (lim - choices) X cycles) in omega arith
 
-  -- the test opens no choice
-  none-opened : plainCounts choices ≡ plainCounts (0 + choices)
-  none-opened = let z : choices ≡ 0 + choices = omega arith in ap plainCounts z
+  module _ (old : List ℕ) (c : Counts) where
+    -- what is told by the test's result
+    tests : (x : Tested) → said ≡ x → (new : List ℕ) (r : Solved) → Told (tb .atoms) lim (byTest X choices x) old new r → countsOf r .choices ≤ lim → Tests cycles t tb lim values choices old new r
+    tests x z new r T h = record { says = subst (λ (y : Tested). Told (tb .atoms) lim (byTest X choices y) old new r) (sym z) T; few = h }
 
-  pub passes-test : founded (programOf t tb) (tb .atoms) X ≡ true → (new : List ℕ) → new ≡ planWith (tb .atoms) X old → Tests t tb values choices old new (solved.Answer c)
-  passes-test z new w =
-      tests true z new (solved.Answer c) (λ lim. record { result = ap solved.Answer (e ∙ none-opened); plan = w }) (ap (λ (x : Counts). x .choices) e)
+    pub passes-test : (k : ℕ) → said ≡ passed k → c ≡ plainCounts (choices + k) → (new : List ℕ) → new ≡ planWith (tb .atoms) X old → Tests cycles t tb lim values choices old new (solved.Answer c)
+    passes-test k z e new w =
+        let g : choices + k ≡ k + choices = omega arith in
+        tests (passed k) z new (solved.Answer c) (record { result = ap solved.Answer (e ∙ ap plainCounts g); plan = w }) (subst (λ (x : Counts). x .choices ≤ lim) (sym e) (spends (passed k) z))
 
-  pub fails-test : founded (programOf t tb) (tb .atoms) X ≡ false → Tests t tb values choices old old (solved.Nothing c)
-  fails-test z = tests false z old (solved.Nothing c) (λ lim. record { result = ap solved.Nothing (e ∙ none-opened); plan = refl }) (ap (λ (x : Counts). x .choices) e)
+    pub fails-test : (k : ℕ) → said ≡ failed k → c ≡ plainCounts (choices + k) → Tests cycles t tb lim values choices old old (solved.Nothing c)
+    fails-test k z e =
+        let g : choices + k ≡ k + choices = omega arith in
+        tests (failed k) z old (solved.Nothing c) (record { result = ap solved.Nothing (e ∙ ap plainCounts g); plan = refl }) (subst (λ (x : Counts). x .choices ≤ lim) (sym e) (spends (failed k) z))
+
+    -- the limit stopped the test
+    pub limit-test : said ≡ exhausted → c ≡ plainCounts lim → Tests cycles t tb lim values choices old old (solved.Limit c)
+    limit-test z e = tests exhausted z old (solved.Limit c) (record { result = ap solved.Limit e; plan = refl }) (subst (λ (x : Counts). x .choices ≤ lim) (sym e) (omega arith))
 
 -- ---- the whole search
 
@@ -265,25 +273,25 @@ says-by (engine.plan X k) p lim S reached = S
 says-by (nothing k) p lim S reached = S
 says-by halted p lim S reached = (S, reached S)
 
-module _ (t : List ℤ) (tb : Table) (lim : ℕ) (L : Laws (AnswerSet (programOf t tb)) (base (programOf t tb) (tb .atoms))) (side : Side) (blank : side .values ≡ replicate 256 0) (none : side .choices ≡ 0)
-    (old new : List ℕ) (r : Solved) (S : Sided t tb lim side old new r) where
-  from-start : tries (base (programOf t tb) (tb .atoms)) lim (suc (tb .atoms)) (bare (side .values)) (side .choices) ≡ engine.engine (base (programOf t tb) (tb .atoms)) lim
+module _ (cycles : Bool) (t : List ℤ) (tb : Table) (lim : ℕ) (L : Laws (AnswerSet (programOf t tb)) (baseBy cycles (programOf t tb) (tb .atoms))) (side : Side) (blank : side .values ≡ replicate 256 0) (none : side .choices ≡ 0)
+    (old new : List ℕ) (r : Solved) (S : Sided cycles t tb lim side old new r) where
+  from-start : tries (baseBy cycles (programOf t tb) (tb .atoms)) lim (suc (tb .atoms)) (bare (side .values)) (side .choices) ≡ engine.engine (baseBy cycles (programOf t tb) (tb .atoms)) lim
   unfolding engine.engine
   from-start =
-      ap (λ (k : ℕ). tries (base (programOf t tb) (tb .atoms)) lim (suc (tb .atoms)) (bare (side .values)) k) none
-      ∙ ap (λ (vs : List ℕ). tries (base (programOf t tb) (tb .atoms)) lim (suc (tb .atoms)) (bare vs) 0) blank
-      ∙ tries-alike (programOf t tb) (tb .atoms) lim (suc (tb .atoms)) (bare (replicate 256 0)) (start (base (programOf t tb) (tb .atoms)) .interpretation) 0
+      ap (λ (k : ℕ). tries (baseBy cycles (programOf t tb) (tb .atoms)) lim (suc (tb .atoms)) (bare (side .values)) k) none
+      ∙ ap (λ (vs : List ℕ). tries (baseBy cycles (programOf t tb) (tb .atoms)) lim (suc (tb .atoms)) (bare vs) 0) blank
+      ∙ tries-alike cycles (programOf t tb) (tb .atoms) lim (suc (tb .atoms)) (bare (replicate 256 0)) (start (baseBy cycles (programOf t tb) (tb .atoms)) .interpretation) 0
       (λ q. ap (λ (a : ℕ → Cell). cellValue (a q)) (cells-blank 256 []))
 
-  pub found-outcome : (p : Outcome) → solve (base (programOf t tb) (tb .atoms)) plain lim ≡ some p
+  pub found-outcome : (p : Outcome) → solve (baseBy cycles (programOf t tb) (tb .atoms)) plain lim ≡ some p
       → (r ≡ solvedBy (p .result) (plainCounts (p .choices))) × (new ≡ planAfter (tb .atoms) (p .result) old)
   found-outcome p e =
       let h = undefined-top (valued (side .values)) (tb .atoms) in
       let T = S .says (suc (tb .atoms)) (omega arith) in
-      let x = tries (base (programOf t tb) (tb .atoms)) lim (suc (tb .atoms)) (bare (side .values)) (side .choices) in
+      let x = tries (baseBy cycles (programOf t tb) (tb .atoms)) lim (suc (tb .atoms)) (bare (side .values)) (side .choices) in
       let w = says-by x p lim
-      (subst (λ (y : Tried). engine.Says y p) (sym from-start) (engine-right (AnswerSet (programOf t tb)) (base (programOf t tb) (tb .atoms)) L lim p e))
-      (limit-is-reached (AnswerSet (programOf t tb)) (base (programOf t tb) (tb .atoms)) L lim plain p e) in (
+      (subst (λ (y : Tried). engine.Says y p) (sym from-start) (engine-right (AnswerSet (programOf t tb)) (baseBy cycles (programOf t tb) (tb .atoms)) L lim p e))
+      (limit-is-reached (AnswerSet (programOf t tb)) (baseBy cycles (programOf t tb) (tb .atoms)) L lim plain p e) in (
         T .result ∙ sym (ap (λ (y : Result). solvedBy y (plainCounts (p .choices))) (w .0) ∙ ap (λ (k : ℕ). solvedBy (resultBy x) (plainCounts k)) (w .1)),
         T .plan ∙ sym (ap (λ (y : Result). planAfter (tb .atoms) y old) (w .0)),
       )

@@ -4,6 +4,7 @@
 -- Assumes nothing.
 use mathlib.Core.Path.{_≡_, refl, sym, _∙_, ap}
 use mathlib.Core.Logic.{_≢_, _⊎_, inl, inr, _↔_}
+use mathlib.Core.Bool.{Bool}
 use mathlib.Core.List.{List}
 use Prim.Native.Nat.{ℕ, _≤_}
 use native.Mathlib.Omega.{arith}
@@ -18,15 +19,14 @@ use Rattle.results.proofs.Determined.{report-determines}
 use Rattle.search.specs.Search.{Result, answer, noAnswer, limit, Outcome}
 use Rattle.table.specs.Contents.{Contents}
 use Rattle.judging.specs.declared.Buffer.the-variants.{Plan}
-use Rattle.judging.specs.Refusals.{Accepted}
-use Rattle.judging.proofs.Judged.{Decided, decided}
+use Rattle.judging.proofs.Judged.{DecidedBy, decided}
 use Rattle.promises.specs.Promises.{counted, reported, planAfter, solvedBy}
 use Rattle.promises.proofs.Kept.{counts-by}
 use Rattle.solver.specs.Solving.{Solving}
 use Rattle.plain.specs.Promise.{plainCounts, Plainly}
 
 module _ (t : List ℤ) (ask : Ask) (old : List ℕ) where
-  unique-by : Decided t (Plan (length old)) → (new new′ : List ℕ) (r r′ : Solved) → Plainly t ask old new r → Plainly t ask old new′ r′ → (r ≡ r′) × (new ≡ new′)
+  unique-by : DecidedBy (ask .cycles) t (Plan (length old)) → (new new′ : List ℕ) (r r′ : Solved) → Plainly t ask old new r → Plainly t ask old new′ r′ → (r ≡ r′) × (new ≡ new′)
   unique-by (inl (f, h)) new new′ r r′ a b =
       let e = a .refused (numberOf f) (placeOf f) .1 h in
       let i = b .refused (numberOf f) (placeOf f) .1 h in
@@ -60,12 +60,13 @@ pub record Agree (r r′ : Solved) (new new′ : List ℕ) : Type 0 where
   pub refusal : (n i : ℕ) → (reportOf r ≡ refusalReport n i) ↔ (reportOf r′ ≡ refusalReport n i)
   pub choices : countsOf r′ .choices ≤ countsOf r .choices
 
-module _ (t : List ℤ) (ask ask′ : Ask) (old new new′ : List ℕ) (r r′ : Solved) (a : Plainly t ask old new r) (b : Solving t ask′ old new′ r′) where
-  -- both are refused exactly where 01's table says so
+module _ (t : List ℤ) (cycles : Bool) (lim lim′ : ℕ) (old new new′ : List ℕ) (r r′ : Solved) (a : Plainly t (record { cycles = cycles; limit = lim }) old new r)
+    (b : Solving t (record { cycles = cycles; limit = lim′ }) old new′ r′) where
+  -- both are refused exactly where 01's table says so, in the mode of both
   refusals : (n i : ℕ) → (reportOf r ≡ refusalReport n i) ↔ (reportOf r′ ≡ refusalReport n i)
   refusals n i = (λ h. b .refused n i .1 (a .refused n i .0 h), λ h. a .refused n i .1 (b .refused n i .0 h))
 
-  agree-by : kindOf r ≢ 2 → kindOf r′ ≢ 2 → Decided t (Plan (length old)) → Agree r r′ new new′
+  agree-by : kindOf r ≢ 2 → kindOf r′ ≢ 2 → DecidedBy cycles t (Plan (length old)) → Agree r r′ new new′
   agree-by n m (inl (f, h)) =
       let e = a .refused (numberOf f) (placeOf f) .1 h in
       let i = b .refused (numberOf f) (placeOf f) .1 h in
@@ -81,7 +82,7 @@ module _ (t : List ℤ) (ask ask′ : Ask) (old new new′ : List ℕ) (r r′ :
       let p = x .0 in
       let y = b .searching c h in
       let o = y .0 in
-      let w = x .1 .alike (not-limit r (p .result) (plainCounts (p .choices)) (x .1 .result) n) (ask′ .limit) o (y .1 .jumping) (not-limit r′ (o .result) (counted o) (y .1 .result) m) in
+      let w = x .1 .alike (not-limit r (p .result) (plainCounts (p .choices)) (x .1 .result) n) lim′ o (y .1 .jumping) (not-limit r′ (o .result) (counted o) (y .1 .result) m) in
       let k : countsOf r .choices ≡ p .choices = ap (λ (z : Solved). countsOf z .choices) (x .1 .result) ∙ ap (λ (z : Counts). z .choices) (counts-by (p .result) (plainCounts (p .choices))) in
       let l : countsOf r′ .choices ≡ o .choices = ap (λ (z : Solved). countsOf z .choices) (y .1 .result) ∙ ap (λ (z : Counts). z .choices) (counts-by (o .result) (counted o)) in
       let q = w .1 in

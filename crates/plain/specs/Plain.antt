@@ -5,8 +5,9 @@
 --   Tests              what the final test hands back
 --   Ready, Testable    what they ask: the table's places and lists, no more choices than the limit, and room for the plan
 -- Assumes nothing.
-use Prim.Native.Nat.{ℕ, _≤_, _<_}
+use Prim.Native.Nat.{ℕ, _-_, _≤_, _<_}
 use mathlib.Core.Path.{_≡_}
+use mathlib.Core.Bool.{Bool}
 use mathlib.Core.List.{List}
 use lib.IntN.{ℤ}
 use lib.ListN.{length}
@@ -18,7 +19,7 @@ use Rattle.layout.specs.declared.Table.{Table}
 use Rattle.layout.specs.Layout.{Laid, programOf}
 use Rattle.heads.specs.Heads.{Listed}
 use Rattle.search.specs.Engine.{Tried, plan, nothing, halted, byTest, goesOn, tries}
-use Rattle.search.specs.Base.{foundedTest, base}
+use Rattle.smaller.specs.Cyclic.{testBy, baseBy}
 use Rattle.search.specs.Search.{Result, answer, noAnswer, limit}
 use Rattle.promises.specs.Promises.{solvedBy, planAfter}
 use Rattle.plain.specs.declared.passes.Side.{Side}
@@ -47,24 +48,27 @@ module _ (t : List ℤ) (tb : Table) where
     pub few : s .choices ≤ lim
     pub room : tb .atoms ≤ length plan
 
-  pub record Testable (values plan : List ℕ) : Type 0 where
+  pub record Testable (lim : ℕ) (values : List ℕ) (choices : ℕ) (plan : List ℕ) : Type 0 where
     pub laid : Laid t tb
     pub defined : AllDefined (tb .atoms) (valued values)
+    pub few : choices ≤ lim
     pub room : tb .atoms ≤ length plan
 
-  pub record Sided (lim : ℕ) (s : Side) (old new : List ℕ) (r : Solved) : Type 0 where
+-- in the mode `cycles`, over the problem with that mode's test (request 14)
+module _ (cycles : Bool) (t : List ℤ) (tb : Table) (lim : ℕ) where
+  pub record Sided (s : Side) (old new : List ℕ) (r : Solved) : Type 0 where
     pub says : (u : ℕ) → undefinedTo (tb .atoms) (valued (s .values)) < u
-        → Told (tb .atoms) lim (tries (base (programOf t tb) (tb .atoms)) lim u (bare (s .values)) (s .choices)) old new r
+        → Told (tb .atoms) lim (tries (baseBy cycles (programOf t tb) (tb .atoms)) lim u (bare (s .values)) (s .choices)) old new r
     pub few : countsOf r .choices ≤ lim
 
-  pub record Chosen (lim : ℕ) (s : Side) (old new : List ℕ) (r : Solved) : Type 0 where
+  pub record Chosen (s : Side) (old new : List ℕ) (r : Solved) : Type 0 where
     pub says : (u : ℕ) → undefinedTo (tb .atoms) (valued (s .values)) ≤ u
         → Told (tb .atoms) lim
-        (goesOn (base (programOf t tb) (tb .atoms)) lim (tries (base (programOf t tb) (tb .atoms)) lim u) (bare (s .values)) (s .choices) (verdictBy (s .conflict))) old new r
+        (goesOn (baseBy cycles (programOf t tb) (tb .atoms)) lim (tries (baseBy cycles (programOf t tb) (tb .atoms)) lim u) (bare (s .values)) (s .choices) (verdictBy (s .conflict))) old new r
     pub few : countsOf r .choices ≤ lim
 
   pub record Tests (values : List ℕ) (choices : ℕ) (old new : List ℕ) (r : Solved) : Type 0 where
-    pub says : (lim : ℕ)
-        → Told (tb .atoms) lim
-        (byTest (trueAtoms (tb .atoms) (valued values)) choices (foundedTest (programOf t tb) (tb .atoms) 0 (trueAtoms (tb .atoms) (valued values)))) old new r
-    pub same : countsOf r .choices ≡ choices
+    pub says : Told (tb .atoms) lim
+        (byTest (trueAtoms (tb .atoms) (valued values)) choices
+        (testBy cycles (programOf t tb) (tb .atoms) (lim - choices) (trueAtoms (tb .atoms) (valued values)))) old new r
+    pub few : countsOf r .choices ≤ lim

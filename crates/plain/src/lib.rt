@@ -9,6 +9,7 @@ use interpretation::Choice;
 use layout::Table;
 use passes::Side;
 use results::Solved;
+use second_search::Tested;
 
 mod passes;
 
@@ -18,7 +19,7 @@ pub fn solve(words: &[i32], ask: results::Ask, plan: &mut [u8]) -> Solved
     ensures { λ r. ⌜ Plainly (now (words .entry)) ask (now (plan .entry)) (now (plan .exit)) r ⌝ }
 {
     let mut lists = [0u16; heads::SIZE];
-    let judged = judging::judge_by(words, judging::Buffer::Plan(plan.len()), &mut lists);
+    let judged = judging::judge_in(words, ask.cycles, judging::Buffer::Plan(plan.len()), &mut lists);
     let fault = judged.fault;
     match fault {
         table::Fault::Refused(f) => Solved::Refused(f),
@@ -31,16 +32,24 @@ pub fn solve(words: &[i32], ask: results::Ask, plan: &mut [u8]) -> Solved
                 conflict: false,
             };
             let side = passes::propagate(words, tb, &lists, start);
-            choose(words, tb, &lists, ask.limit, side, plan)
+            choose(words, tb, ask.cycles, &lists, ask.limit, side, plan)
         }
     }
 }
 
 // Opens a choice: "at the limit, end with limit; else open one more level with the lowest undefined atom true .. this is one choice". A side that ends in a
 // conflict holds nothing; then "that atom becomes false", and this side is tried.
-fn choose(t: &[i32], tb: Table, lists: &Lists, limit: u32, side: Side, plan: &mut [u8]) -> Solved
+fn choose(
+    t: &[i32],
+    tb: Table,
+    cycles: bool,
+    lists: &Lists,
+    limit: u32,
+    side: Side,
+    plan: &mut [u8],
+) -> Solved
     requires { ⌜ Ready (now t) tb (now lists) limit side (now plan) ⌝ }
-    ensures { λ r. ⌜ Chosen (now (t .entry)) tb limit side (now (plan .entry)) (now (plan .exit)) r ⌝ }
+    ensures { λ r. ⌜ Chosen cycles (now (t .entry)) tb limit side (now (plan .entry)) (now (plan .exit)) r ⌝ }
 {
     let choices = side.choices;
     if side.conflict {
@@ -51,35 +60,62 @@ fn choose(t: &[i32], tb: Table, lists: &Lists, limit: u32, side: Side, plan: &mu
         if limit <= choices {
             return Solved::Limit(counted(choices));
         }
-        let first = try_side(t, tb, lists, limit, side.on(p, true, choices + 1), plan);
+        let first = try_side(t, tb, cycles, lists, limit, side.on(p, true, choices + 1), plan);
         let Solved::Nothing(n) = first else {
             return first;
         };
         let sofar = n.choices;
-        return try_side(t, tb, lists, limit, side.on(p, false, sofar), plan);
+        return try_side(t, tb, cycles, lists, limit, side.on(p, false, sofar), plan);
     }
-    tested(t, tb, &side.values, choices, plan)
+    tested(t, tb, cycles, limit, &side.values, choices, plan)
 }
 
 // Tries a side of a choice: ".. then propagate again".
-fn try_side(t: &[i32], tb: Table, lists: &Lists, limit: u32, side: Side, plan: &mut [u8]) -> Solved
+fn try_side(
+    t: &[i32],
+    tb: Table,
+    cycles: bool,
+    lists: &Lists,
+    limit: u32,
+    side: Side,
+    plan: &mut [u8],
+) -> Solved
     requires { ⌜ Ready (now t) tb (now lists) limit side (now plan) × (side .conflict ≡ false) ⌝ }
-    ensures { λ r. ⌜ Sided (now (t .entry)) tb limit side (now (plan .entry)) (now (plan .exit)) r ⌝ }
+    ensures { λ r. ⌜ Sided cycles (now (t .entry)) tb limit side (now (plan .entry)) (now (plan .exit)) r ⌝ }
 {
     let tried = passes::propagate(t, tb, lists, side);
-    choose(t, tb, lists, limit, tried, plan)
+    choose(t, tb, cycles, lists, limit, tried, plan)
 }
 
-// "If there is no conflict and all atoms are defined, test foundedness .. All true atoms added: answer. If not: conflict". An answer is the plan.
-fn tested(t: &[i32], tb: Table, values: &[u8; 256], choices: u32, plan: &mut [u8]) -> Solved
-    requires { ⌜ Testable (now t) tb (now values) (now plan) ⌝ }
-    ensures { λ r. ⌜ Tests (now (t .entry)) tb (now (values .entry)) choices (now (plan .entry)) (now (plan .exit)) r ⌝ }
+// "If there is no conflict and all atoms are defined, test foundedness .. All true atoms added: answer. If not: conflict". Where head cycles are taken the test
+// is the second search of request 14, whose choices are counted here and against the limit. An answer is the plan.
+fn tested(
+    t: &[i32],
+    tb: Table,
+    cycles: bool,
+    limit: u32,
+    values: &[u8; 256],
+    choices: u32,
+    plan: &mut [u8],
+) -> Solved
+    requires { ⌜ Testable (now t) tb limit (now values) choices (now plan) ⌝ }
+    ensures { λ r. ⌜ Tests cycles (now (t .entry)) tb limit (now (values .entry)) choices (now (plan .entry)) (now (plan .exit)) r ⌝ }
 {
-    if foundation::founded(t, tb, values) {
-        solver::plans::write(*values, tb.atoms, plan);
-        return Solved::Answer(counted(choices));
+    let mut candidates = [0u32; Table::RULES];
+    let left = limit - choices;
+    let found = turns::test(t, tb, cycles, values, left, &mut candidates);
+    match found {
+        Tested::Passed(spent) => {
+            let all = choices + spent;
+            solver::plans::write(*values, tb.atoms, plan);
+            Solved::Answer(counted(all))
+        }
+        Tested::Failed(spent) => {
+            let all = choices + spent;
+            Solved::Nothing(counted(all))
+        }
+        Tested::Exhausted => Solved::Limit(counted(limit)),
     }
-    Solved::Nothing(counted(choices))
 }
 
 // "It never jumps": no skips. Passes are not counted.

@@ -9,7 +9,7 @@ use lib.ListN.{length, replicate}
 use Rattle.results.specs.declared.Solved.the-variants as solved
 use Rattle.table.specs.Contents.{Contents}
 use Rattle.judging.specs.declared.Buffer.the-variants.{Plan}
-use Rattle.judging.specs.Refusals.{Accepted}
+use Rattle.judging.specs.Refusals.{AcceptedBy}
 use Rattle.judging.specs.Judging.{Placed}
 use Rattle.judging.proofs.Judged.{plan-wide, judged-refused, judged-taken}
 use Rattle.heads.specs.Heads.{Listed}
@@ -20,8 +20,8 @@ use Rattle.plain.proofs.Entry.{plainly-refused, plainly-found}
 use Rattle.plain.proofs.solve.Statement.{statement}
 use Rattle.plain.proofs.solve.Tie as tie
 
-judge-by-requires : tie.Need-judge-by-requires
-judge-by-requires c κs = search needs
+judge-in-requires : tie.Need-judge-in-requires
+judge-in-requires c κs = search needs
 
 enum-known-fault : tie.Need-enum-known-fault
 enum-known-fault c = search needs
@@ -31,15 +31,15 @@ enum-told c = search needs
 
 -- what was accepted
 taken : (c : tie.After-tb) → let j = c .before .before .before in let a = j .before .before .before .args in
-    (d : Contents) × Accepted (a .words .now) (Plan (length (a .plan .now))) d × Placed (a .words .now) (j .judge-by .result .table) d
+    (d : Contents) × AcceptedBy (a .ask .cycles) (a .words .now) (Plan (length (a .plan .now))) d × Placed (a .words .now) (j .judge-in .result .table) d
 taken c =
     let j = c .before .before .before in
     let a = j .before .before .before .args in
-    judged-taken (a .words .now) (Plan (length (a .plan .now))) (j .judge-by .result) (j .judge-by .ensures .0) (c .before .enum-told .given .1)
+    judged-taken (a .words .now) (Plan (length (a .plan .now))) (j .judge-in .result) (j .judge-in .ensures .0) (c .before .enum-told .given .1)
 
 -- its rules by head
-listed : (c : tie.After-tb) → let j = c .before .before .before in Listed (j .before .before .before .args .words .now) (j .judge-by .result .table) (j .judge-by .last .1 .1 .0)
-listed c = c .before .before .before .judge-by .ensures .1 (c .before .enum-told .given .1) .listed
+listed : (c : tie.After-tb) → let j = c .before .before .before in Listed (j .before .before .before .args .words .now) (j .judge-in .result .table) (j .judge-in .last .1 .1 .1 .0)
+listed c = c .before .before .before .judge-in .ensures .1 (c .before .enum-told .given .1) .listed
 
 propagate-requires : tie.Need-propagate-requires
 propagate-requires c κs = (taken (c .before) .2 .laid, listed (c .before), refl)
@@ -60,7 +60,7 @@ returns c =
     let j = c .before .before .before in
     let a = j .before .before .before .args in
     plainly-refused (a .words .now) (a .ask) (a .plan .now) (a .plan .now) (solved.Refused (f .0 .0)) (f .0 .0)
-    (judged-refused (a .words .now) (Plan (length (a .plan .now))) (j .judge-by .result) (f .0 .0) (j .judge-by .ensures .0) (f .1)) refl refl
+    (judged-refused (a .words .now) (Plan (length (a .plan .now))) (j .judge-in .result) (f .0 .0) (j .judge-in .ensures .0) (f .1)) refl refl
 
 same-length : tie.Need-same-length
 same-length c = search needs
@@ -76,10 +76,10 @@ returns-2 c =
     let b = g .before .before in
     let j = b .before .before .before in
     let a = j .before .before .before .args in
-    let tb = j .judge-by .result .table in
+    let tb = j .judge-in .result .table in
     let x = taken b in
     plainly-found (a .words .now) (a .ask) (a .plan .now) _ (r .choose .result) (x .0) (x .1) tb (x .2) start refl refl
-    (tried (a .words .now) tb (a .ask .limit) start (g .propagate .result) refl (g .propagate .ensures) (atoms-in (a .words .now) tb (x .2 .laid)) (a .plan .now) _ (r .choose .result) (r .choose .ensures))
+    (tried (a .ask .cycles) (a .words .now) tb (a .ask .limit) start (g .propagate .result) refl (g .propagate .ensures) (atoms-in (a .words .now) tb (x .2 .laid)) (a .plan .now) _ (r .choose .result) (r .choose .ensures))
 
 pub solve-spec : {M : Type 1} → statement M
-solve-spec = tie.close (tie.spec judge-by-requires enum-known-fault enum-told propagate-requires choose-requires returns same-length returns-2)
+solve-spec = tie.close (tie.spec judge-in-requires enum-known-fault enum-told propagate-requires choose-requires returns same-length returns-2)

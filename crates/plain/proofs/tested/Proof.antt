@@ -1,12 +1,45 @@
--- `plain::tested` meets its contract: the foundedness test, and only an answer writes. Assumes nothing.
+-- `plain::tested` meets its contract: the final test of the mode, and only an answer writes. Assumes nothing.
 use borrow.Author.Needs.{needs}
-use mathlib.Core.Path.{_≡_, sym, _∙_}
-use Rattle.plain.proofs.Sides.{passes-test, fails-test}
+use native.Mathlib.Omega.{arith}
+use mathlib.Core.Path.{_≡_, sym, ap, _∙_}
+use Prim.Native.Nat.{ℕ, _+_, _-_, _≤_}
+use Rattle.search.specs.Search.{passed, failed, exhausted}
+use Rattle.layout.specs.Layout.{programOf}
+use Rattle.layout.proofs.Inside.{atoms-in}
+use Rattle.interpretation.specs.State.{trueAtoms}
+use Rattle.interpretation.specs.View.{valued}
+use Rattle.smaller.specs.Cyclic.{testBy}
+use Rattle.second_search.specs.Looking.{testedOf}
+use Rattle.plain.proofs.Sides.{spends, passes-test, fails-test, limit-test}
 use Rattle.plain.proofs.tested.Statement.{statement}
 use Rattle.plain.proofs.tested.Tie as tie
 
-founded-requires : tie.Need-founded-requires
-founded-requires c κs = search needs
+sub-left : tie.Need-sub-left
+sub-left c = search needs
+
+test-requires : tie.Need-test-requires
+test-requires c κs = search needs
+
+enum-known-found : tie.Need-enum-known-found
+enum-known-found c = search needs
+
+-- what the test said
+passes : (c : tie.After-found) → let x = c .before .before in let a = x .before .before .before .args in
+    testBy (a .cycles) (programOf (a .t .now) (a .tb)) (a .tb .atoms) (a .limit - a .choices) (trueAtoms (a .tb .atoms) (valued (a .values .now))) ≡ passed (c .found .given .0 .0)
+passes c = sym (c .before .before .test .ensures) ∙ ap testedOf (c .found .given .1)
+
+fails : (c : tie.After-found2) → let x = c .before .before in let a = x .before .before .before .args in
+    testBy (a .cycles) (programOf (a .t .now) (a .tb)) (a .tb .atoms) (a .limit - a .choices) (trueAtoms (a .tb .atoms) (valued (a .values .now))) ≡ failed (c .found2 .given .0 .0)
+fails c = sym (c .before .before .test .ensures) ∙ ap testedOf (c .found2 .given .1)
+
+add-all : tie.Need-add-all
+add-all c =
+    let f = c .before in
+    let b = f .before .before .before .before .before in
+    let a = b .args in
+    let s = spends (a .cycles) (a .t .now) (a .tb) (atoms-in (a .t .now) (a .tb) (b .pre .laid)) (a .limit) (a .values .now) (a .choices) (b .pre .few) (passed (f .found .given .0 .0)) (passes f) in
+    let l = b .fits .limit in
+    omega (arith, s, l)
 
 write-requires : tie.Need-write-requires
 write-requires c κs = search needs
@@ -14,25 +47,72 @@ write-requires c κs = search needs
 counted-requires : tie.Need-counted-requires
 counted-requires c κs = search needs
 
+enum-known-found-2 : tie.Need-enum-known-found-2
+enum-known-found-2 c = search needs
+
+add-all-2 : tie.Need-add-all-2
+add-all-2 c =
+    let f = c .before in
+    let b = f .before .before .before .before .before in
+    let a = b .args in
+    let s = spends (a .cycles) (a .t .now) (a .tb) (atoms-in (a .t .now) (a .tb) (b .pre .laid)) (a .limit) (a .values .now) (a .choices) (b .pre .few) (failed (f .found2 .given .0 .0)) (fails f) in
+    let l = b .fits .limit in
+    omega (arith, s, l)
+
+counted-requires-2 : tie.Need-counted-requires-2
+counted-requires-2 c κs = search needs
+
+enum-told : tie.Need-enum-told
+enum-told c = search needs
+
+counted-requires-3 : tie.Need-counted-requires-3
+counted-requires-3 c κs = search needs
+
 same-length : tie.Need-same-length
 same-length c = search needs
 
 returns : tie.Need-returns
 returns c =
     let w = c .before .before .before in
-    let e = w .before .before .before in
-    let f = e .before in
-    let a = f .before .before .args in
-    passes-test (a .t .now) (a .tb) (a .values .now) (a .choices) (a .plan .now) (c .counted .result) (c .counted .ensures) (sym (f .founded .ensures) ∙ e .if1 .taken) _ (w .write .ensures)
-
-counted-requires-2 : tie.Need-counted-requires-2
-counted-requires-2 c κs = search needs
+    let f = w .before .before .before .before in
+    let b = f .before .before .before .before .before in
+    let a = b .args in
+    passes-test (a .cycles) (a .t .now) (a .tb) (atoms-in (a .t .now) (a .tb) (b .pre .laid)) (a .limit) (a .values .now) (a .choices) (b .pre .few) (a .plan .now)
+    (c .counted .result) (f .found .given .0 .0) (passes f) (c .counted .ensures) _ (w .write .ensures)
 
 returns-2 : tie.Need-returns-2
 returns-2 c =
     let f = c .before .before in
-    let a = f .before .before .args in
-    fails-test (a .t .now) (a .tb) (a .values .now) (a .choices) (a .plan .now) (c .counted2 .result) (c .counted2 .ensures) (sym (f .founded .ensures) ∙ c .before .if1 .left)
+    let b = f .before .before .before .before .before in
+    let a = b .args in
+    fails-test (a .cycles) (a .t .now) (a .tb) (atoms-in (a .t .now) (a .tb) (b .pre .laid)) (a .limit) (a .values .now) (a .choices) (b .pre .few) (a .plan .now)
+    (c .counted2 .result) (f .found2 .given .0 .0) (fails f) (c .counted2 .ensures)
+
+returns-3 : tie.Need-returns-3
+returns-3 c =
+    let e = c .before in
+    let x = e .before .before in
+    let b = x .before .before .before in
+    let a = b .args in
+    limit-test (a .cycles) (a .t .now) (a .tb) (atoms-in (a .t .now) (a .tb) (b .pre .laid)) (a .limit) (a .values .now) (a .choices) (b .pre .few) (a .plan .now)
+    (c .counted3 .result) (sym (x .test .ensures) ∙ ap testedOf (e .enum-told .given .1)) (c .counted3 .ensures)
 
 pub tested-spec : {M : Type 1} → statement M
-tested-spec = tie.close (tie.spec founded-requires write-requires counted-requires same-length returns counted-requires-2 returns-2)
+tested-spec =
+    tie.close
+    (tie.spec
+    sub-left
+    test-requires
+    enum-known-found
+    add-all
+    write-requires
+    counted-requires
+    enum-known-found-2
+    add-all-2
+    counted-requires-2
+    enum-told
+    counted-requires-3
+    same-length
+    returns
+    returns-2
+    returns-3)
