@@ -88,7 +88,7 @@ choose-returns-3 t c =
     let k = x .before .before .before in
     let i = k .before .before .before .before .before in
     let a = i .before .before .args in
-    first-ends (a .t .now) (a .tb) (a .limit) (a .t5) (i .if1 .left) (k .lowest .given .0 .0) (chosen-atom t k) (x .before .if2 .left) (x .on .result) (x .on .ensures .0) (x .on .ensures .1)
+    first-ends (a .cycles) (a .t .now) (a .tb) (a .limit) (a .t6) (i .if1 .left) (k .lowest .given .0 .0) (chosen-atom t k) (x .before .if2 .left) (x .on .result) (x .on .ensures .0) (x .on .ensures .1)
     (a .plan .now) _ (y .try-side .result) (y .try-side .ensures) (holds-some (y .try-side .result) (c .match2 .keys2))
 
 choose-on-requires-2 : (t : ℕ) → choose-lts.Need-on-requires-2 (choose-calls t) (choose-at t) choose.Post
