@@ -38,3 +38,14 @@ target/examples/list_c | diff - examples/expected-list
 echo "list_c: ok"
 target/examples/plain_c | diff - examples/expected-plain
 echo "plain_c: ok"
+cc -std=c11 -Wall -Wextra -Werror -O2 -I include examples/c/stored.c $desk -o target/examples/stored_c
+{
+    target/examples/stored_c write target/examples/night.table <examples/plan.txt
+    target/examples/stored_c read target/examples/night.table
+    # one atom called "A", a fact
+    printf '\001\000\001\000A\000\000\001\000\001\000\001\000\000\000\000\000\000\000' >target/examples/named.table
+    target/examples/stored_c read target/examples/named.table || true
+    printf '\001\000\000' >target/examples/cut.table
+    target/examples/stored_c read target/examples/cut.table || true
+} | diff - examples/expected-stored
+echo "stored_c: ok"

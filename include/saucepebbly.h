@@ -5,7 +5,7 @@
  *
  * For all entries:
  * - A length is the number of elements at its pointer. A pointer whose length is 0 may be null. Each pointer is
- *   aligned as its element type asks (4 bytes for words, reports and candidates, 2 for whys and lists, 1 for plans and texts).
+ *   aligned as its element type asks (4 bytes for words, reports and candidates, 2 for whys and lists, 1 for plans, texts and bytes).
  * - The buffers of one call must not overlap, but for two that are only read (declared const). Nothing else is asked:
  *   every content is allowed, and a call reads and writes only what it is lent.
  * - `lists` and `candidates` are memory that a call works in, SAUCEPEBBLY_LISTS and SAUCEPEBBLY_CANDIDATES elements long
@@ -36,6 +36,7 @@ extern "C" {
 /* How many elements the lent memory has. */
 #define SAUCEPEBBLY_LISTS 17922
 #define SAUCEPEBBLY_CANDIDATES 1024
+#define SAUCEPEBBLY_WORDS 16384
 
 /* What saucepebbly_solve returns. */
 enum {
@@ -57,9 +58,9 @@ enum {
     SAUCEPEBBLY_FULL = 1      /* the rows are filled, and there is one plan more */
 };
 
-/* What saucepebbly_read_aspif and saucepebbly_write_aspif return; or SAUCEPEBBLY_REFUSED. */
+/* What saucepebbly_read_aspif, saucepebbly_write_aspif, saucepebbly_store and saucepebbly_restore return; or SAUCEPEBBLY_REFUSED. */
 enum {
-    SAUCEPEBBLY_WROTE = 0 /* the words, or the text, are written; report: how many words or bytes, 0 */
+    SAUCEPEBBLY_WROTE = 0 /* the words, the text or the bytes are written; report: how many words or bytes, 0 */
 };
 
 /* What saucepebbly_open, saucepebbly_pin and saucepebbly_unpin return; or SAUCEPEBBLY_REFUSED. */
@@ -82,12 +83,13 @@ enum {
     SAUCEPEBBLY_PLAN_BYTE = 11,       /* check only: one of the first N bytes is neither 0 nor 1; its index */
     SAUCEPEBBLY_OUTSIDE_SUBSET = 14,  /* aspif: a line outside the subset, or missing; its number, from 1 */
     SAUCEPEBBLY_BEYOND_RANGE = 15,    /* aspif: a number, list or table beyond the ranges; the line's number, from 1 */
-    SAUCEPEBBLY_SHORT_BUFFER = 16,    /* the buffer is too short for the whole text; place 0 */
+    SAUCEPEBBLY_SHORT_BUFFER = 16,    /* the buffer is too short for the whole text, or for all bytes; place 0 */
     SAUCEPEBBLY_PART_ROW = 17,        /* list only: the rows' length is no multiple of 256; place 0 */
     SAUCEPEBBLY_PIN_NUMBER = 20,      /* pin: the atom is 0 or above the table's; place 0 */
     SAUCEPEBBLY_PIN_TWICE = 21,       /* pin: the atom is pinned already, the same way or the other; place 0 */
     SAUCEPEBBLY_PINS_FULL = 22,       /* pin: there are 64 pins; place 0 */
     SAUCEPEBBLY_NO_PIN = 23,          /* unpin: there is no pin; place 0 */
+    SAUCEPEBBLY_NAMES_LOST = 24,      /* restore: a name is not empty, and would be lost; place 0 */
     SAUCEPEBBLY_SHORT_WORDS = 25      /* the buffer for words has fewer than 16,384; place 0 */
 };
 
@@ -136,6 +138,22 @@ uint32_t saucepebbly_read_aspif(const uint8_t *text, size_t text_len, int32_t *w
  * are the table's, each from exactly one of the text's. Refused as by saucepebbly_solve, without 10; then, if the buffer is too short, by 16. */
 uint32_t saucepebbly_write_aspif(const int32_t *words, size_t words_len, uint8_t *text, size_t text_len,
                                  uint32_t *report, size_t report_len, uint16_t *lists);
+
+/* Stores a table as bytes, at the front of the buffer, with empty names; the rest of it keeps its content, and on a refusal all of it does. The form: the
+ * same sections in the same order as the words, counts and numbers in two bytes, low byte first, thresholds in four, in two's complement; an aggregate
+ * literal is twice its number, plus one if negated; after the number of atoms, for each of them, the length of its name, 0 to 32, and the name's bytes,
+ * which may be any. Refused as by saucepebbly_solve, without 10; then, if the buffer is too short, by 16. */
+uint32_t saucepebbly_store(const int32_t *words, size_t words_len, uint8_t *bytes, size_t bytes_len, uint32_t *report,
+                           size_t report_len, uint16_t *lists);
+
+/* Restores the words from such bytes, at the front of a buffer that has at least 16,384 (else 25, before all); the rest of it keeps its content, and on a
+ * refusal all of it does. The bytes are refused with the numbers 2 to 7, from the left, each place the first byte of the number or name in question; then
+ * with 3 at the first byte too many, then with 1, 8 and 9, and last of all with 24, if a name is not empty: the words have no room for it. What
+ * saucepebbly_store wrote comes back as the same words; and what is restored would be stored as the same bytes. A place above 4,294,967,295 is reported as
+ * that. `memory` has SAUCEPEBBLY_WORDS elements (65,536 bytes), aligned to 4, and is treated as `lists` is: the words are judged there before the buffer
+ * is touched. */
+uint32_t saucepebbly_restore(const uint8_t *bytes, size_t bytes_len, int32_t *words, size_t words_len, uint32_t *report,
+                             size_t report_len, int32_t *memory, uint16_t *lists);
 
 /* Sessions. A session keeps a table and at most 64 pins, in memory that the caller lends: SAUCEPEBBLY_SESSION_WORDS words of 32 bits, which are
  * 65,800 bytes, aligned to 4. It has its own copy of the words, so the caller's buffer is free again after saucepebbly_open. What stands in the

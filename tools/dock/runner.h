@@ -29,6 +29,22 @@ static int next_byte(void) {
     return in[in_at++];
 }
 
+/* A small number in one byte, or 255 and the four bytes of any other. */
+static inline int next_number(long *value) {
+    int first = next_byte();
+    if (first < 0)
+        return 0;
+    if (first < 255) {
+        *value = first - 4;
+        return 1;
+    }
+    uint32_t bits = 0;
+    for (int i = 0; i < 4; i++)
+        bits |= (uint32_t)next_byte() << (8 * i);
+    *value = (int32_t)bits;
+    return 1;
+}
+
 static uint8_t out[65536];
 static size_t out_end;
 

@@ -20,22 +20,6 @@ static unsigned long mixed(unsigned long sum, unsigned long x) {
     return (sum * 33 + x + 1) % 65521;
 }
 
-/* A small number in one byte, or 255 and the four bytes of any other. */
-static int next_number(long *value) {
-    int first = next_byte();
-    if (first < 0)
-        return 0;
-    if (first < 255) {
-        *value = first - 4;
-        return 1;
-    }
-    uint32_t bits = 0;
-    for (int i = 0; i < 4; i++)
-        bits |= (uint32_t)next_byte() << (8 * i);
-    *value = (int32_t)bits;
-    return 1;
-}
-
 /* The memory that the entries work in, filled with something else before each call: no result depends on it. */
 static uint16_t lists[SAUCEPEBBLY_LISTS];
 static uint32_t candidates[SAUCEPEBBLY_CANDIDATES];

@@ -4,3 +4,4 @@ pub mod ReadingEntry
 pub mod WritingEntry
 pub mod SessionEntries
 pub mod ListEntry
+pub mod StoringEntries

@@ -4,3 +4,4 @@ pub mod Reading
 pub mod Writing
 pub mod Session
 pub mod List
+pub mod Storing

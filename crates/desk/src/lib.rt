@@ -4,4 +4,5 @@ mod list;
 mod plainly;
 mod reading;
 mod session;
+mod storing;
 mod writing;
