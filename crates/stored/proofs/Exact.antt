@@ -21,7 +21,8 @@ use Rattle.stored.specs.Restoring.{Encodes}
 use Rattle.stored.specs.declared.points.Asked.the-variants as asked
 use Rattle.stored.specs.declared.points.Point.{Point}
 use Rattle.stored.specs.declared.points.Point.the-variants as point
-use Rattle.stored.proofs.Laying.{number-read, number-written, Read, scan-laid, scan-written}
+use Rattle.stored.proofs.NumberLaws.{number-read, number-written, Read}
+use Rattle.stored.proofs.Laying.{scan-laid, scan-written}
 use Rattle.stored.proofs.Leading.{sections-lead}
 use Rattle.stored.proofs.NameLaws.{names-read, names-written}
 

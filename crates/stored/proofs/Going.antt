@@ -27,7 +27,8 @@ use Rattle.stored.specs.declared.points.Asked.{Asked}
 use Rattle.stored.specs.declared.points.Asked.the-variants as asked
 use Rattle.stored.specs.declared.points.Point.{Point}
 use Rattle.stored.specs.declared.points.Point.the-variants as point
-use Rattle.stored.proofs.Laying.{laid-on, laid-done, any-place}
+use Rattle.stored.proofs.NumberLaws.{any-place}
+use Rattle.stored.proofs.Laying.{laid-on, laid-done}
 use Rattle.stored.proofs.Leading.{sections-lead}
 use Rattle.stored.proofs.Exact.{table-is, first-word}
 

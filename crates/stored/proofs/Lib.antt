@@ -2,6 +2,7 @@
 pub mod Forms
 pub mod Steps
 pub mod Leading
+pub mod NumberLaws
 pub mod Laying
 pub mod NameLaws
 pub mod Exact

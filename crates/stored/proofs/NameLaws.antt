@@ -15,7 +15,7 @@ use Rattle.table.specs.Roles.{count}
 use Rattle.table.proofs.Faults.{count-in, count-good}
 use Rattle.stored.specs.Bytes.{two, Bytes, Short, noNames, named, namesBytes, Step, stop, go, stepOf, Name, unread, name, nameBy, nameAfter, nameOf, Names, nameless, names, nameFirst, namesOf}
 use Rattle.stored.specs.declared.points.Asked.the-variants as asked
-use Rattle.stored.proofs.Laying.{number-read, number-written, Read}
+use Rattle.stored.proofs.NumberLaws.{number-read, number-written, Read}
 
 -- ---- walks
 

@@ -17,7 +17,7 @@ use Rattle.stored.specs.Taking.{nameTold, namesTold}
 use Rattle.stored.specs.declared.points.Asked.the-variants as asked
 use Rattle.stored.specs.declared.reading.Named.{Named}
 use Rattle.stored.specs.declared.reading.Named.the-variants as told
-use Rattle.stored.proofs.NameLaws.{Spelt, spelt, names-nil, names-on, names-stop, name-after, named-cons, nameless≢names}
+use Rattle.stored.proofs.NameLaws.{spelt, names-nil, names-on, names-stop, name-after, named-cons, nameless≢names}
 use Rattle.stored.proofs.Telling.{number-stands, Said}
 
 -- ---- what it was told of a name

@@ -1,8 +1,8 @@
 -- The promise of `restore`, refused and accepted; that bytes have one judgement only. Assumes nothing.
 use mathlib.Core.Path.{_≡_, refl, sym, ap, _∙_, subst}
-use mathlib.Core.Logic.{_⊎_, inl, inr, _↔_}
+use mathlib.Core.Logic.{_⊎_, inl, inr}
 use mathlib.Core.Bool.{Bool, true, false}
-use mathlib.Core.List.{List, [], _∷_, _++_}
+use mathlib.Core.List.{List, _++_}
 use Prim.Native.Nat.{ℕ, _+_, _≤_, _<_}
 use native.Mathlib.Omega.{arith}
 use lib.Dec.{T}
@@ -17,7 +17,6 @@ use Rattle.results.specs.declared.Written.{Written}
 use Rattle.results.specs.declared.Written.the-variants as result
 use Rattle.results.proofs.Determined.{refusal-determined}
 use Rattle.table.specs.Contents.{Contents}
-use Rattle.table.specs.Grammar.{contentsOf, accepted}
 use Rattle.table.proofs.Theorem.{encoding-accepted}
 use Rattle.table.specs.declared.Fault.{Fault}
 use Rattle.table.specs.declared.Fault.the-variants as fault
@@ -27,10 +26,10 @@ use Rattle.judging.specs.Refusals.{Accepted, Refused}
 use Rattle.judging.specs.Refusals as judged
 use Rattle.judging.specs.Judging.{Judged}
 use Rattle.judging.proofs.Judged.{judged-refused, judged-taken}
-use Rattle.judging.proofs.Refusals.{accepted-unique, refused-not-accepted, refused-unique, same-contents}
-use Rattle.stored.specs.Bytes.{Bytes, named, noNames, stored, Reading, refusedFor, holds, readBytes}
+use Rattle.judging.proofs.Refusals.{refused-not-accepted, refused-unique, same-contents}
+use Rattle.stored.specs.Bytes.{Bytes, named, stored, Reading, refusedFor, holds, readBytes}
 use Rattle.stored.specs.Promises.{plainly}
-use Rattle.stored.specs.Restoring.{RestoreRefused, room, bytes, words, names, Encodes, Restores}
+use Rattle.stored.specs.Restoring.{RestoreRefused, room, bytes, words, names, Restores}
 use Rattle.stored.specs.Taking.{Takes, namesFault, earlierOf}
 use Rattle.stored.specs.declared.reading.Taken.{Taken}
 use Rattle.stored.specs.declared.reading.Taken.the-variants as took

@@ -4,7 +4,7 @@ use mathlib.Core.Path.{_≡_, refl, sym, ap, _∙_, subst}
 use mathlib.Core.Bool.{Bool, true, false}
 use mathlib.Core.List.{List, [], _∷_, _++_}
 use mathlib.Core.Option.{none}
-use Prim.Native.Nat.{ℕ, zero, suc, _+_, _-_, _≤_, _<_}
+use Prim.Native.Nat.{ℕ, suc, _+_, _-_, _≤_, _<_}
 use native.Mathlib.Omega.{arith}
 use lib.Dec.{T}
 use lib.IntN.{ℤ, pos, natAbs}
@@ -25,7 +25,8 @@ use Rattle.stored.specs.declared.points.Point.the-variants as point
 use Rattle.stored.specs.declared.reading.Taken.{Taken}
 use Rattle.stored.specs.declared.reading.Taken.the-variants as took
 use Rattle.table.proofs.Faults.{count-good}
-use Rattle.stored.proofs.Laying.{any-place, fits-size, scan-on, scan-stop, scan-done}
+use Rattle.stored.proofs.NumberLaws.{any-place, fits-size}
+use Rattle.stored.proofs.Laying.{scan-on, scan-stop, scan-done}
 use Rattle.stored.proofs.Leading.{sections-lead}
 use Rattle.stored.proofs.Exact.{read-is}
 use Rattle.stored.proofs.Going.{Ends}

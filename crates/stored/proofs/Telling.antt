@@ -1,5 +1,5 @@
 -- Numbers as the code takes them from the bytes: what it was told of one, and where the next begins. Assumes nothing.
-use mathlib.Core.Path.{_≡_, refl, sym, ap, _∙_, subst}
+use mathlib.Core.Path.{_≡_, sym, ap, _∙_, subst}
 use mathlib.Core.Bool.{Bool, true, false, not}
 use mathlib.Core.List.{List}
 use mathlib.Core.Logic.{_⊎_, inl, inr}
@@ -21,7 +21,7 @@ use Rattle.stored.specs.declared.numbers.Got.{Got}
 use Rattle.stored.specs.declared.numbers.Got.the-variants as got
 use Rattle.stored.proofs.Forms.{two-there, four-there, two-cut, four-cut, cut≢whole, restIn}
 use Rattle.stored.proofs.Steps.{count-form, quantity-form, threshold-form, member-form, literal-form}
-use Rattle.stored.proofs.Laying.{Gone, gone}
+use Rattle.stored.proofs.NumberLaws.{Gone, gone}
 use Rattle.stored.proofs.Going.{signed-back}
 
 -- ---- a number that was read, in the whole of the bytes

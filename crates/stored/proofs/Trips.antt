@@ -7,7 +7,7 @@ use lib.ListN.{length, take, drop}
 use Rattle.results.specs.declared.Written.{Written}
 use Rattle.results.specs.declared.Written.the-variants as result
 use Rattle.stored.specs.Bytes.{noNames}
-use Rattle.stored.specs.Promises.{plainly, Stores}
+use Rattle.stored.specs.Promises.{Stores}
 use Rattle.stored.specs.Restoring.{Restores}
 use Rattle.stored.proofs.NameLaws.{empty-unnamed}
 

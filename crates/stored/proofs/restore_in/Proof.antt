@@ -1,10 +1,8 @@
 -- `stored::restore_in` meets its contract: the words are taken into the memory, judged there, and taken again where nothing is at fault. Assumes nothing.
 use mathlib.Core.Path.{_≡_, refl, sym, ap, _∙_, subst}
 use mathlib.Core.List.{List}
-use Prim.Native.Nat.{ℕ, _≤_}
 use native.Mathlib.Omega.{arith}
 use lib.IntN.{ℤ}
-use lib.ListN.{length, take}
 use lib.Seq.{length-take-le}
 use Rattle.results.specs.declared.Refusal.the-variants.{ShortWords}
 use Rattle.results.specs.declared.Written.the-variants as result

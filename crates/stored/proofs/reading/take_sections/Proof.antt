@@ -1,19 +1,17 @@
 -- `stored::reading::take_sections` meets its contract. The invariant of its loop is `Taking`; the measure is the number of bytes left. Assumes nothing.
 use mathlib.Core.Path.{_≡_, refl, sym, ap, _∙_, subst}
-use mathlib.Core.Bool.{Bool, true, false}
-use mathlib.Core.List.{List}
-use Prim.Native.Nat.{ℕ, _+_, _-_}
+use mathlib.Core.Bool.{true, false}
+use Prim.Native.Nat.{_+_, _-_}
 use native.Mathlib.Omega.{arith}
 use borrow.Author.Needs.{needs}
-use lib.IntN.{ℤ}
 use lib.ListN.{length, drop}
-use Rattle.stored.specs.Bytes.{stepOf, sections, Scan, refused, scan}
-use Rattle.stored.specs.Machine.{askedAt, nothingAsked, roleOf, gotOf, pointAfter}
+use Rattle.stored.specs.Bytes.{stepOf, Scan}
+use Rattle.stored.specs.Machine.{askedAt, nothingAsked, roleOf, gotOf}
 use Rattle.stored.specs.Taking.{TakesScan}
 use Rattle.stored.specs.declared.points.Asked.{Asked}
 use Rattle.stored.specs.declared.points.Point.{Point}
 use Rattle.stored.specs.declared.reading.Taken.the-variants as took
-use Rattle.stored.proofs.Telling.{Said, said-number, said-refused}
+use Rattle.stored.proofs.Telling.{said-number, said-refused}
 use Rattle.stored.proofs.Scanning.{Taking, On, taking-start, taking-on, taking-stop, taking-ends, taking-long}
 use Rattle.stored.proofs.reading.take_sections.Statement.{statement}
 use Rattle.stored.proofs.reading.take_sections.Tie as tie

@@ -1,5 +1,5 @@
 -- `stored::reading::take_table` meets its contract: the number of atoms, then what follows it. Assumes nothing.
-use mathlib.Core.Path.{refl, sym, ap, _∙_, subst}
+use mathlib.Core.Path.{refl, sym, _∙_, subst}
 use lib.ListN.{drop}
 use Rattle.table.specs.Roles.{count}
 use Rattle.stored.specs.Bytes.{stepOf, stop, namesOf, Reading}

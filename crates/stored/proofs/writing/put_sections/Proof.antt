@@ -17,7 +17,7 @@ use Rattle.stored.specs.Bytes.{numberBytes}
 use Rattle.stored.specs.Machine.{askedAt, roleOf, pointAfter, bytesBy}
 use Rattle.stored.specs.declared.points.Asked.{Asked}
 use Rattle.stored.specs.declared.points.Point.{Point}
-use Rattle.stored.proofs.Laying.{fits-size}
+use Rattle.stored.proofs.NumberLaws.{fits-size}
 use Rattle.stored.proofs.Going.{Going, On, second, going-start, going-on, going-done, below-size, bytes-by}
 use Rattle.stored.proofs.writing.put_sections.Statement.{statement}
 use Rattle.stored.proofs.writing.put_sections.Tie as tie
