@@ -38,7 +38,7 @@ target/examples/list_c | diff - examples/expected-list
 echo "list_c: ok"
 target/examples/plain_c | diff - examples/expected-plain
 echo "plain_c: ok"
-cc -std=c11 -Wall -Wextra -Werror -O2 -I include examples/c/stored.c $desk -o target/examples/stored_c
+cc -std=c11 -Wall -Wextra -Werror -O2 -I include examples/c/stored.c $desk $dock -o target/examples/stored_c
 {
     target/examples/stored_c write target/examples/night.table <examples/plan.txt
     target/examples/stored_c read target/examples/night.table
