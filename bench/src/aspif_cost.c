@@ -1,4 +1,4 @@
-/* What reading and writing aspif cost: the stack at its deepest, and the time by the text's length.
+/* What reading and writing aspif, storing and restoring cost: the stack at its deepest, and the time by the length of the text or the bytes.
  *
  *     rt staticlib dock && rt staticlib desk
  *     mkdir -p target/bench
@@ -20,7 +20,9 @@ static size_t length;
 static int32_t words[WORDS], table[WORDS];
 static size_t table_len;
 static uint8_t out[1 << 22];
+static size_t stored_len;
 static uint16_t lists[SAUCEPEBBLY_LISTS];
+static int32_t memory[SAUCEPEBBLY_WORDS];
 static uint32_t kind, report[2];
 
 static void *nothing(void *unused) {
@@ -34,6 +36,16 @@ static void *reading(void *unused) {
 
 static void *writing(void *unused) {
     kind = saucepebbly_write_aspif(table, table_len, out, sizeof out, report, 2, lists);
+    return unused;
+}
+
+static void *storing(void *unused) {
+    kind = saucepebbly_store(table, table_len, out, sizeof out, report, 2, lists);
+    return unused;
+}
+
+static void *restoring(void *unused) {
+    kind = saucepebbly_restore(out, stored_len, words, WORDS, report, 2, memory, lists);
     return unused;
 }
 
@@ -126,6 +138,11 @@ int main(void) {
         table_len = (size_t)(at - table);
         double t = seconds(writing, 5);
         printf("write %zu words: kind %u, %u bytes, %.2f ms, %.1f ns a byte, stack %zu\n", table_len, (unsigned)kind, (unsigned)report[0], 1e3 * t, 1e9 * t / (double)report[0], used(writing) - thread);
+        t = seconds(storing, 5);
+        stored_len = report[0];
+        printf("store %zu words: kind %u, %u bytes, %.2f ms, stack %zu\n", table_len, (unsigned)kind, (unsigned)report[0], 1e3 * t, used(storing) - thread);
+        t = seconds(restoring, 5);
+        printf("restore %zu bytes: kind %u, %u words, %.2f ms, stack %zu\n", stored_len, (unsigned)kind, (unsigned)report[0], 1e3 * t, used(restoring) - thread);
     }
     return 0;
 }
