@@ -54,7 +54,10 @@ target/dock/runs write <crates/run_aspif_write/stdin | cmp - crates/run_aspif_wr
 echo "dock: $(grep -c "^wrote\|^refused" crates/run_aspif_write/stdout) tables written as aspif through C: as expected"
 target/dock/stored cases <tools/dock/stored/stdin | cmp - tools/dock/stored/stdout
 echo "dock: $(wc -l <tools/dock/stored/stdout) tables stored and restored through C: as expected"
-target/dock/stored trips <crates/run_tables/stdin
+target/dock/stored tables <crates/run_tables/stdin
+for texts in crates/run_texts crates/run_why tools/dock/reasons tools/dock/passes; do
+    target/dock/stored texts <$texts/stdin
+done
 if command -v cc >/dev/null && command -v rustc >/dev/null; then
     sh examples/test.sh
 else

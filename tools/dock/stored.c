@@ -1,7 +1,8 @@
-/* Runs the stored form over the compiled library: stored cases | stored trips. `cases` has its input as tools/stored.py tells, a line a case, and what is printed is
- * compared. `trips` takes the tables of crates/run_tables: what is refused must be so with the number and place that saucepebbly_open gives, and of any other the words
- * must come back from the bytes, the bytes from the words, 16 from a buffer that is one byte too short, and 24 with a name that is not empty. It prints one line, and its
- * status is 0 only if all is as it should be. Needs no header of the C library, so that the kit's own compiler builds it. */
+/* Runs the stored form over the compiled library: stored cases | stored tables | stored texts. `cases` has its input as tools/stored.py tells, a line a case, and what is
+ * printed is compared. `tables` takes the tables of crates/run_tables and `texts` those of texts, after their limit, there and back: what is refused must be so with the
+ * number and place that saucepebbly_open gives, and of any other the words must come back from the bytes, the bytes from the words, 16 from a buffer that is one byte too
+ * short, and 24 with a name that is not empty. One line is printed, and the status is 0 only if all is as it should be. Needs no header of the C library, so that the
+ * kit's own compiler builds it. */
 #include "runner.h"
 
 enum { ROOM = 524288 };
@@ -78,7 +79,7 @@ static void run_cases(void) {
     }
 }
 
-/* ---- trips: there and back */
+/* ---- there and back */
 
 static int is_refused_as_opened(size_t count, const uint32_t *report) {
     uint32_t told[2] = {0, 0};
@@ -128,28 +129,81 @@ static int is_lost(size_t length) {
     return is_right;
 }
 
-static int run_trips(void) {
-    unsigned long back = 0, refused = 0, wrong = 0;
+static unsigned long back, refused, wrong;
+
+static void run_trip(size_t count) {
+    uint32_t report[2];
+    if (store(count, bytes, ROOM, report) == SAUCEPEBBLY_REFUSED) {
+        int is_alike = is_refused_as_opened(count, report);
+        refused += is_alike;
+        wrong += !is_alike;
+        return;
+    }
+    size_t length = report[0];
+    int is_right = is_back(count, length) && is_again(count, length) && is_kept(count, length) && (words[0] == 0 || is_lost(length));
+    back += is_right;
+    wrong += !is_right;
+}
+
+static void run_tables(void) {
     long count, room, given, value;
     while (next_number(&count) && next_number(&room) && next_number(&given)) {
-        uint32_t report[2];
         for (long i = 0; i < count; i++) {
             next_number(&value);
             words[i] = (int32_t)value;
         }
         for (long i = 0; i < given; i++)
             next_number(&value);
-        size_t n = (size_t)count;
-        if (store(n, bytes, ROOM, report) == SAUCEPEBBLY_REFUSED) {
-            refused += is_refused_as_opened(n, report);
-            wrong += !is_refused_as_opened(n, report);
-        } else {
-            size_t length = report[0];
-            int is_right = is_back(n, length) && is_again(n, length) && is_kept(n, length) && (words[0] == 0 || is_lost(length));
-            back += is_right;
-            wrong += !is_right;
-        }
+        run_trip((size_t)count);
     }
+}
+
+/* ---- texts: the length in four bytes, then numbers, the first of which is the limit; a text with anything else in it is passed over */
+
+static uint8_t text[65537];
+
+static int is_table(size_t n, size_t *count) {
+    size_t numbers = 0;
+    for (size_t i = 0; i < n;) {
+        if (text[i] == ' ' || text[i] == '\n') {
+            i++;
+            continue;
+        }
+        int minus = text[i] == '-';
+        long value = 0;
+        size_t first = i += (size_t)minus;
+        for (; i < n && text[i] >= '0' && text[i] <= '9' && value < 1l << 40; i++)
+            value = value * 10 + (text[i] - '0');
+        if (i == first || (i < n && text[i] != ' ' && text[i] != '\n') || (numbers > 0 && value - minus > 2147483647l))
+            return 0;
+        if (numbers > 0)
+            words[numbers - 1] = (int32_t)(minus ? -value : value);
+        numbers++;
+    }
+    *count = numbers - 1;
+    return numbers > 0;
+}
+
+static void run_texts(void) {
+    for (;;) {
+        size_t n = 0, count;
+        for (int i = 0; i < 4; i++) {
+            int b = next_byte();
+            if (b < 0)
+                return;
+            n |= (size_t)b << (8 * i);
+        }
+        for (size_t i = 0; i < n; i++) {
+            int b = next_byte();
+            if (i < sizeof text)
+                text[i] = (uint8_t)b;
+        }
+        if (n <= sizeof text && is_table(n, &count))
+            run_trip(count);
+    }
+}
+
+static int say_trips(void) {
     put_text("there and back:");
     put_number(back);
     put_text(" tables,");
@@ -162,10 +216,14 @@ static int run_trips(void) {
 
 int main(int argc, char **argv) {
     int status = 0;
-    if (argc == 2 && argv[1][0] == 't')
-        status = run_trips();
-    else
+    if (argc == 2 && argv[1][0] == 'c')
         run_cases();
+    else if (argc == 2 && argv[1][1] == 'a')
+        run_tables();
+    else
+        run_texts();
+    if (back + refused + wrong > 0)
+        status = say_trips();
     flush();
     return status;
 }
