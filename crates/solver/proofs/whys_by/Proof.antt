@@ -20,13 +20,13 @@ nothing-requires : tie.Need-nothing-requires
 nothing-requires c κs = search needs
 
 returns : tie.Need-returns
-returns c = subst (Recorded (c .nothing .result)) (ap (by (c .before .before .before)) (sym (c .before .if1 .taken))) (c .nothing .ensures)
+returns c = subst (Recorded (c .nothing .result)) (ap (by (c .before .before)) (sym (c .before .if1 .taken))) (c .nothing .ensures)
 
 whys-for-requires : tie.Need-whys-for-requires
 whys-for-requires c κs = search needs
 
 returns-2 : tie.Need-returns-2
-returns-2 c = subst (Recorded (c .whys-for .result)) (ap (by (c .before .before .before)) (sym (c .before .if1 .left))) (c .whys-for .ensures)
+returns-2 c = subst (Recorded (c .whys-for .result)) (ap (by (c .before .before)) (sym (c .before .if1 .left))) (c .whys-for .ensures)
 
 pub whys-by-spec : {M : Type 1} → statement M
 whys-by-spec = tie.close (tie.spec nothing-requires returns whys-for-requires returns-2)
