@@ -19,7 +19,12 @@ pub fn solve(words: &[i32], ask: results::Ask, plan: &mut [u8]) -> Solved
     ensures { λ r. ⌜ Plainly (now (words .entry)) ask (now (plan .entry)) (now (plan .exit)) r ⌝ }
 {
     let mut lists = [0u16; heads::SIZE];
-    let judged = judging::judge_in(words, ask.cycles, judging::Buffer::Plan(plan.len()), &mut lists);
+    let judged = judging::judge_in(
+        words,
+        ask.cycles,
+        judging::Buffer::Plan(plan.len()),
+        &mut lists,
+    );
     let fault = judged.fault;
     match fault {
         table::Fault::Refused(f) => Solved::Refused(f),
@@ -60,7 +65,15 @@ fn choose(
         if limit <= choices {
             return Solved::Limit(counted(choices));
         }
-        let first = try_side(t, tb, cycles, lists, limit, side.on(p, true, choices + 1), plan);
+        let first = try_side(
+            t,
+            tb,
+            cycles,
+            lists,
+            limit,
+            side.on(p, true, choices + 1),
+            plan,
+        );
         let Solved::Nothing(n) = first else {
             return first;
         };
