@@ -16,6 +16,10 @@
  *   run in parallel.
  * - The library calls memcpy and memset, and nothing else of the C library.
  * - A report that is shorter than what an entry writes there is not written at all. The check leaves it alone on yes and no.
+ * - `mode` is SAUCEPEBBLY_OLD (0) or SAUCEPEBBLY_HEAD_CYCLES; any other number is taken as the latter. In the old mode a table with a head
+ *   cycle is refused with SAUCEPEBBLY_HEAD_CYCLE. In the other it is not, and the search for a smaller model takes the place of the
+ *   foundedness test: its choices are counted among the reported ones and against the same limit, and `whys` is all 0. On a table
+ *   without head cycles both modes give the same kind and plan whenever neither meets its limit.
  *
  * Two libraries, for x86-64 Linux: libdock.a (`rt staticlib dock`) has saucepebbly_solve and saucepebbly_approve, which the
  * dock runs; libdesk.a (`rt staticlib desk`) has all others. A program may link either or both.
@@ -37,6 +41,12 @@ extern "C" {
 #define SAUCEPEBBLY_LISTS 17922
 #define SAUCEPEBBLY_CANDIDATES 1024
 #define SAUCEPEBBLY_WORDS 16384
+
+/* How head cycles are taken. */
+enum {
+    SAUCEPEBBLY_OLD = 0,        /* they are refused */
+    SAUCEPEBBLY_HEAD_CYCLES = 1 /* they are accepted */
+};
 
 /* What saucepebbly_solve returns. */
 enum {
@@ -77,7 +87,7 @@ enum {
     SAUCEPEBBLY_NUMBER = 5,           /* an atom or aggregate number is 0 or outside its range; its index */
     SAUCEPEBBLY_DESCENT = 6,          /* a list does not ascend; index of the first member not above the one before */
     SAUCEPEBBLY_QUANTITY = 7,         /* a function, comparison, threshold or value is outside its range; its index */
-    SAUCEPEBBLY_HEAD_CYCLE = 8,       /* head cycle; lowest such rule, from 1 */
+    SAUCEPEBBLY_HEAD_CYCLE = 8,       /* in the old mode: head cycle; lowest such rule, from 1 */
     SAUCEPEBBLY_AGGREGATE_CYCLE = 9,  /* aggregate cycle; lowest rule with such an arc, from 1 */
     SAUCEPEBBLY_SHORT_PLAN = 10,      /* the plan buffer is shorter than 256 bytes; place 0 */
     SAUCEPEBBLY_PLAN_BYTE = 11,       /* check only: one of the first N bytes is neither 0 nor 1; its index */
@@ -104,19 +114,19 @@ enum {
  * atom it is, and whose positive body atoms have smaller rounds. False atoms, atoms above the table's, and all
  * atoms on any other result have 0 and 0. If there are fewer places, as for a caller who does not ask (NULL, 0),
  * nothing is written to it. */
-uint32_t saucepebbly_solve(const int32_t *words, size_t words_len, uint32_t limit, uint8_t *plan, size_t plan_len,
-                           uint32_t *report, size_t report_len, uint16_t *whys, size_t whys_len, uint16_t *lists,
+uint32_t saucepebbly_solve(const int32_t *words, size_t words_len, uint32_t mode, uint32_t limit, uint8_t *plan,
+                           size_t plan_len, uint32_t *report, size_t report_len, uint16_t *whys, size_t whys_len, uint16_t *lists,
                            uint32_t *candidates);
 
 /* Says whether the plan is an answer set. On a refusal the report gets its number and place. */
-uint32_t saucepebbly_approve(const int32_t *words, size_t words_len, const uint8_t *plan, size_t plan_len,
-                             uint32_t *report, size_t report_len, uint16_t *lists, uint32_t *candidates);
+uint32_t saucepebbly_approve(const int32_t *words, size_t words_len, uint32_t mode, const uint8_t *plan,
+                             size_t plan_len, uint32_t *report, size_t report_len, uint16_t *lists, uint32_t *candidates);
 
 /* The same as saucepebbly_solve by the plain search, which never jumps: one side of a choice after the other. It is for readers and for
  * comparison, not for the dock: it may open many more choices, and it calls itself to the depth of the choices. Refusals, and where neither
  * meets its limit the result and the plan, are those of saucepebbly_solve; the report's skips are 0. */
-uint32_t saucepebbly_plain(const int32_t *words, size_t words_len, uint32_t limit, uint8_t *plan, size_t plan_len,
-                           uint32_t *report, size_t report_len);
+uint32_t saucepebbly_plain(const int32_t *words, size_t words_len, uint32_t mode, uint32_t limit, uint8_t *plan,
+                           size_t plan_len, uint32_t *report, size_t report_len);
 
 /* Lists every plan, the first one first: rows of 256 bytes, one after the other, `rows_len` a multiple of 256 (it may be 0). Byte i - 1 of a row is 1
  * if atom i is true and 0 if it is false; bytes above the table's atoms are 0. Rows past the number listed keep their content, and on a refusal all
@@ -124,8 +134,8 @@ uint32_t saucepebbly_plain(const int32_t *words, size_t words_len, uint32_t limi
  * were found. In each case the rows hold the first plans, in order, each once. The report needs four places: how many plans are listed, choices,
  * skips, passes; of a refusal number, place, 0, 0; if it has fewer, nothing is written to it. A number listed above 4,294,967,295 is reported as
  * that. */
-uint32_t saucepebbly_list(const int32_t *words, size_t words_len, uint32_t limit, uint8_t *rows, size_t rows_len,
-                          uint32_t *report, size_t report_len, uint16_t *lists, uint32_t *candidates);
+uint32_t saucepebbly_list(const int32_t *words, size_t words_len, uint32_t mode, uint32_t limit, uint8_t *rows,
+                          size_t rows_len, uint32_t *report, size_t report_len, uint16_t *lists, uint32_t *candidates);
 
 /* Reads a text in the ASP intermediate format, which begins with the line `asp 1 0 0`: rule statements with a disjunctive head and a normal
  * body or a weight body of positive literals, comments, and the closing 0. The words go to the front of the buffer, which has at least
@@ -156,16 +166,16 @@ uint32_t saucepebbly_restore(const uint8_t *bytes, size_t bytes_len, int32_t *wo
                              size_t report_len, int32_t *memory, uint16_t *lists);
 
 /* Sessions. A session keeps a table and at most 64 pins, in memory that the caller lends: SAUCEPEBBLY_SESSION_WORDS words of 32 bits, which are
- * 65,800 bytes, aligned to 4. It has its own copy of the words, so the caller's buffer is free again after saucepebbly_open. What stands in the
+ * 65,804 bytes, aligned to 4. It has its own copy of the words, so the caller's buffer is free again after saucepebbly_open. What stands in the
  * memory is the library's; it may be copied, and a call on the copy gives what a call on the session would. No content is dangerous: memory of
  * zeros holds no words and no pins, so a plan is refused with SAUCEPEBBLY_ABSENT_WORD, 0; of any other content that no saucepebbly_open made the
  * words are judged at each plan, and pins that would be refused are passed over. */
-#define SAUCEPEBBLY_SESSION_WORDS 16450
+#define SAUCEPEBBLY_SESSION_WORDS 16451
 
-/* Begins a session with this table and no pins. The table is refused as saucepebbly_solve refuses it, without SAUCEPEBBLY_SHORT_PLAN; then the
+/* Begins a session with this table, in this mode, and no pins; its plans are made in this mode. The table is refused as saucepebbly_solve refuses it, without SAUCEPEBBLY_SHORT_PLAN; then the
  * session stays as it stood, byte for byte. */
-uint32_t saucepebbly_open(const int32_t *words, size_t words_len, int32_t *session, uint32_t *report, size_t report_len,
-                          uint16_t *lists);
+uint32_t saucepebbly_open(const int32_t *words, size_t words_len, uint32_t mode, int32_t *session, uint32_t *report,
+                          size_t report_len, uint16_t *lists);
 
 /* Pins an atom: false with the value 0, true with any other. Refused with 20, 21 and 22, tested in that order; then the session stays as it stood. */
 uint32_t saucepebbly_pin(int32_t *session, uint32_t atom, uint32_t value, uint32_t *report, size_t report_len);

@@ -80,7 +80,7 @@ def first_plan(words):
     """The first answer set, as a list of atoms, or None."""
     report = (ctypes.c_uint32 * 2)()
     plan, room = array(ctypes.c_uint8, [0] * 256)
-    kind = DOCK.saucepebbly_solve(*array(ctypes.c_int32, words), 4294967295, plan, room, report, ctypes.c_size_t(2), None, ctypes.c_size_t(0), LISTS, CANDIDATES)
+    kind = DOCK.saucepebbly_solve(*array(ctypes.c_int32, words), 0, 4294967295, plan, room, report, ctypes.c_size_t(2), None, ctypes.c_size_t(0), LISTS, CANDIDATES)
     if kind == 3:
         raise Refused(report[0], report[1])
     return [i + 1 for i in range(words[0]) if plan[i]] if kind == 0 else None

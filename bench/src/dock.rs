@@ -1,4 +1,4 @@
-//! The library's two entries, as include/saucepebbly.h declares them, and the memory that is lent to them.
+//! The library's two entries, as include/saucepebbly.h declares them, in the old mode, and the memory that is lent to them.
 
 /// What a caller lends besides its buffers; what it holds does not matter.
 pub struct Memory {
@@ -16,6 +16,7 @@ extern "C" {
     fn saucepebbly_solve(
         words: *const i32,
         words_len: usize,
+        mode: u32,
         limit: u32,
         plan: *mut u8,
         plan_len: usize,
@@ -29,6 +30,7 @@ extern "C" {
     fn saucepebbly_approve(
         words: *const i32,
         words_len: usize,
+        mode: u32,
         plan: *const u8,
         plan_len: usize,
         report: *mut u32,
@@ -46,7 +48,7 @@ pub fn solve(words: &[i32], limit: u32, plan: &mut [u8], memory: &mut Memory) ->
         let (plan, plan_len) = (plan.as_mut_ptr(), plan.len());
         let (lists, candidates) = (memory.lists.as_mut_ptr(), memory.candidates.as_mut_ptr());
         let (report, whys) = (report.as_mut_ptr(), whys.as_mut_ptr());
-        saucepebbly_solve(words.as_ptr(), words.len(), limit, plan, plan_len, report, 2, whys, 512, lists, candidates)
+        saucepebbly_solve(words.as_ptr(), words.len(), 0, limit, plan, plan_len, report, 2, whys, 512, lists, candidates)
     };
     (kind, report)
 }
@@ -57,7 +59,7 @@ pub fn approve(words: &[i32], plan: &[u8], memory: &mut Memory) -> (u32, [u32; 2
     let kind = unsafe {
         let (lists, candidates) = (memory.lists.as_mut_ptr(), memory.candidates.as_mut_ptr());
         let (plan, plan_len) = (plan.as_ptr(), plan.len());
-        saucepebbly_approve(words.as_ptr(), words.len(), plan, plan_len, report.as_mut_ptr(), 2, lists, candidates)
+        saucepebbly_approve(words.as_ptr(), words.len(), 0, plan, plan_len, report.as_mut_ptr(), 2, lists, candidates)
     };
     (kind, if kind == 3 { report } else { [0, 0] })
 }

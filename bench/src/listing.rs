@@ -11,6 +11,7 @@ unsafe extern "C" {
     fn saucepebbly_list(
         words: *const i32,
         words_len: usize,
+        mode: u32,
         limit: u32,
         rows: *mut u8,
         rows_len: usize,
@@ -38,7 +39,7 @@ fn list(words: &[i32], rows: &mut [u8]) -> (u32, [u32; 4]) {
     let kind = unsafe {
         let (rows, rows_len) = (rows.as_mut_ptr(), rows.len());
         let (lists, candidates) = (lists.as_mut_ptr(), candidates.as_mut_ptr());
-        saucepebbly_list(words.as_ptr(), words.len(), u32::MAX, rows, rows_len, report.as_mut_ptr(), 4, lists, candidates)
+        saucepebbly_list(words.as_ptr(), words.len(), 0, u32::MAX, rows, rows_len, report.as_mut_ptr(), 4, lists, candidates)
     };
     (kind, report)
 }

@@ -19,12 +19,12 @@ static uint16_t lists[SAUCEPEBBLY_LISTS];
 static uint32_t candidates[SAUCEPEBBLY_CANDIDATES];
 
 static void *plain(void *unused) {
-    kind = saucepebbly_plain(words, sizeof words / sizeof *words, limit, plan, sizeof plan, report, 2);
+    kind = saucepebbly_plain(words, sizeof words / sizeof *words, SAUCEPEBBLY_OLD, limit, plan, sizeof plan, report, 2);
     return unused;
 }
 
 static void *jumping(void *unused) {
-    kind = saucepebbly_solve(words, sizeof words / sizeof *words, limit, plan, sizeof plan, report, 2, NULL, 0, lists, candidates);
+    kind = saucepebbly_solve(words, sizeof words / sizeof *words, SAUCEPEBBLY_OLD, limit, plan, sizeof plan, report, 2, NULL, 0, lists, candidates);
     return unused;
 }
 

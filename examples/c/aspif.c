@@ -29,7 +29,7 @@ static int read_and_solve(void) {
         return refused("text", report);
     }
     uint32_t count = report[0];
-    uint32_t kind = saucepebbly_solve(words, count, 1000000, plan, sizeof plan, report, 2, NULL, 0, lists, candidates);
+    uint32_t kind = saucepebbly_solve(words, count, SAUCEPEBBLY_OLD, 1000000, plan, sizeof plan, report, 2, NULL, 0, lists, candidates);
     if (kind == SAUCEPEBBLY_REFUSED) {
         return refused("table", report);
     }

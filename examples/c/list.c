@@ -20,7 +20,7 @@ static void list(size_t count) {
     static uint8_t rows[4 * 256];
     uint32_t report[4];
     memset(rows, 7, sizeof rows);
-    uint32_t kind = saucepebbly_list(TABLE, TABLE_WORDS, 1000, rows, 256 * count, report, 4, lists, candidates);
+    uint32_t kind = saucepebbly_list(TABLE, TABLE_WORDS, SAUCEPEBBLY_OLD, 1000, rows, 256 * count, report, 4, lists, candidates);
     printf("%s: %u listed, %u choices, %u skips\n", ENDS[kind], (unsigned)report[0], (unsigned)report[1], (unsigned)report[2]);
     for (uint32_t row = 0; row < report[0]; row++) {
         for (int i = 0; i < 256; i++) {

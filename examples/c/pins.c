@@ -61,7 +61,7 @@ int main(void) {
     uint32_t report[2] = {0, 0};
     show_plan("never opened"); /* no words: the first is absent */
 
-    expect(saucepebbly_open(TABLE, TABLE_WORDS, session, report, 2, lists) == SAUCEPEBBLY_DONE, "the table is accepted");
+    expect(saucepebbly_open(TABLE, TABLE_WORDS, SAUCEPEBBLY_OLD, session, report, 2, lists) == SAUCEPEBBLY_DONE, "the table is accepted");
     show_plan("no pins");
     pin(1, 0); /* lane 1 is shut */
     show_plan("1 shut");

@@ -36,8 +36,8 @@ static void print_result(const char *engine, uint32_t kind, const uint32_t *repo
 static void put_through_both(const int32_t *words, size_t count, uint32_t limit) {
     uint8_t plan[256] = {0}, other[256] = {0};
     uint32_t report[2], told[2];
-    uint32_t kind = saucepebbly_solve(words, count, limit, plan, sizeof plan, report, 2, NULL, 0, lists, candidates);
-    uint32_t plainly = saucepebbly_plain(words, count, limit, other, sizeof other, told, 2);
+    uint32_t kind = saucepebbly_solve(words, count, SAUCEPEBBLY_OLD, limit, plan, sizeof plan, report, 2, NULL, 0, lists, candidates);
+    uint32_t plainly = saucepebbly_plain(words, count, SAUCEPEBBLY_OLD, limit, other, sizeof other, told, 2);
     print_result("jumping", kind, report, plan);
     print_result("plain", plainly, told, other);
     if (plainly != SAUCEPEBBLY_LIMIT && (kind != plainly || memcmp(plan, other, sizeof plan) != 0)) {

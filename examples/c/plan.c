@@ -43,7 +43,7 @@ static int all_untouched(const uint8_t *bytes, size_t from, size_t to) {
 
 static void solve_it(uint8_t *plan, size_t plan_len) {
     uint32_t report[3] = {99, 99, 99};
-    uint32_t kind = saucepebbly_solve(TABLE, TABLE_WORDS, 100, plan, plan_len, report, 2, NULL, 0, lists, candidates);
+    uint32_t kind = saucepebbly_solve(TABLE, TABLE_WORDS, SAUCEPEBBLY_OLD, 100, plan, plan_len, report, 2, NULL, 0, lists, candidates);
     expect(kind == SAUCEPEBBLY_ANSWER, "an answer");
     expect(all_untouched(plan, 8, plan_len), "bytes past the atoms are kept");
     expect(report[2] == 99, "only two places of the report are written");
@@ -79,25 +79,25 @@ static void ask_why(uint8_t *plan, size_t plan_len) {
     uint32_t report[2];
     uint16_t whys[512];
     memset(whys, 0xff, sizeof whys);
-    expect(saucepebbly_solve(CHAIN, CHAIN_WORDS, 100, plan, plan_len, report, 2, whys, 512, lists, candidates) == SAUCEPEBBLY_ANSWER, "an answer");
+    expect(saucepebbly_solve(CHAIN, CHAIN_WORDS, SAUCEPEBBLY_OLD, 100, plan, plan_len, report, 2, whys, 512, lists, candidates) == SAUCEPEBBLY_ANSWER, "an answer");
     expect(whys[2] == 0 && whys[3] == 0, "atom 2 is false and has no round");
     explain(CHAIN, whys, 5, 0);
-    expect(saucepebbly_solve(TABLE, TABLE_WORDS, 5, plan, plan_len, report, 2, whys, 512, lists, candidates) == SAUCEPEBBLY_LIMIT, "the limit");
+    expect(saucepebbly_solve(TABLE, TABLE_WORDS, SAUCEPEBBLY_OLD, 5, plan, plan_len, report, 2, whys, 512, lists, candidates) == SAUCEPEBBLY_LIMIT, "the limit");
     for (int i = 0; i < 512; i++) {
         expect(whys[i] == 0, "only an answer has rounds");
     }
     whys[0] = 99;
-    expect(saucepebbly_solve(CHAIN, CHAIN_WORDS, 100, plan, plan_len, report, 2, whys, 511, lists, candidates) == SAUCEPEBBLY_ANSWER, "an answer");
+    expect(saucepebbly_solve(CHAIN, CHAIN_WORDS, SAUCEPEBBLY_OLD, 100, plan, plan_len, report, 2, whys, 511, lists, candidates) == SAUCEPEBBLY_ANSWER, "an answer");
     expect(whys[0] == 99, "a short array is not written");
 }
 
 static void approve_it(uint8_t *plan, size_t plan_len) {
     uint32_t report[2] = {0, 0};
-    expect(saucepebbly_approve(TABLE, TABLE_WORDS, plan, plan_len, report, 2, lists, candidates) == SAUCEPEBBLY_YES, "the plan is approved");
+    expect(saucepebbly_approve(TABLE, TABLE_WORDS, SAUCEPEBBLY_OLD, plan, plan_len, report, 2, lists, candidates) == SAUCEPEBBLY_YES, "the plan is approved");
     plan[3] = 1;
-    expect(saucepebbly_approve(TABLE, TABLE_WORDS, plan, plan_len, report, 2, lists, candidates) == SAUCEPEBBLY_NO, "atom 4 has no rule left");
+    expect(saucepebbly_approve(TABLE, TABLE_WORDS, SAUCEPEBBLY_OLD, plan, plan_len, report, 2, lists, candidates) == SAUCEPEBBLY_NO, "atom 4 has no rule left");
     plan[3] = 2;
-    expect(saucepebbly_approve(TABLE, TABLE_WORDS, plan, plan_len, report, 2, lists, candidates) == SAUCEPEBBLY_REFUSED, "2 is no truth value");
+    expect(saucepebbly_approve(TABLE, TABLE_WORDS, SAUCEPEBBLY_OLD, plan, plan_len, report, 2, lists, candidates) == SAUCEPEBBLY_REFUSED, "2 is no truth value");
     expect(plan[3] == 2 && all_untouched(plan, 8, plan_len), "a check never writes");
     printf("yes, no, refused %u %u\n", (unsigned)report[0], (unsigned)report[1]);
 }
@@ -106,18 +106,18 @@ static void end_otherwise(uint8_t *plan, size_t plan_len) {
     static const int32_t ODD_LOOP[] = {1, 0, 1, 1, 1, 0, 1, 1, 0}; /* 1 :- not 1. */
     uint32_t report[2] = {0, 0};
     memset(plan, UNTOUCHED, plan_len);
-    expect(saucepebbly_solve(TABLE, TABLE_WORDS, 5, plan, plan_len, report, 2, NULL, 0, lists, candidates) == SAUCEPEBBLY_LIMIT, "the limit");
+    expect(saucepebbly_solve(TABLE, TABLE_WORDS, SAUCEPEBBLY_OLD, 5, plan, plan_len, report, 2, NULL, 0, lists, candidates) == SAUCEPEBBLY_LIMIT, "the limit");
     printf("limit %u %u\n", (unsigned)report[0], (unsigned)report[1]);
-    expect(saucepebbly_solve(ODD_LOOP, 9, 100, plan, plan_len, report, 2, NULL, 0, lists, candidates) == SAUCEPEBBLY_NONE, "none");
+    expect(saucepebbly_solve(ODD_LOOP, 9, SAUCEPEBBLY_OLD, 100, plan, plan_len, report, 2, NULL, 0, lists, candidates) == SAUCEPEBBLY_NONE, "none");
     printf("none %u %u\n", (unsigned)report[0], (unsigned)report[1]);
-    expect(saucepebbly_solve(TABLE, 4, 100, plan, plan_len, report, 2, NULL, 0, lists, candidates) == SAUCEPEBBLY_REFUSED, "a word is absent");
+    expect(saucepebbly_solve(TABLE, 4, SAUCEPEBBLY_OLD, 100, plan, plan_len, report, 2, NULL, 0, lists, candidates) == SAUCEPEBBLY_REFUSED, "a word is absent");
     printf("refused %u %u\n", (unsigned)report[0], (unsigned)report[1]);
-    expect(saucepebbly_solve(TABLE, TABLE_WORDS, 100, plan, 255, report, 2, NULL, 0, lists, candidates) == SAUCEPEBBLY_REFUSED, "a short plan buffer");
+    expect(saucepebbly_solve(TABLE, TABLE_WORDS, SAUCEPEBBLY_OLD, 100, plan, 255, report, 2, NULL, 0, lists, candidates) == SAUCEPEBBLY_REFUSED, "a short plan buffer");
     printf("refused %u %u\n", (unsigned)report[0], (unsigned)report[1]);
-    expect(saucepebbly_solve(NULL, 0, 100, plan, plan_len, report, 2, NULL, 0, lists, candidates) == SAUCEPEBBLY_REFUSED, "no words");
+    expect(saucepebbly_solve(NULL, 0, SAUCEPEBBLY_OLD, 100, plan, plan_len, report, 2, NULL, 0, lists, candidates) == SAUCEPEBBLY_REFUSED, "no words");
     printf("refused %u %u\n", (unsigned)report[0], (unsigned)report[1]);
     report[0] = 99;
-    expect(saucepebbly_solve(TABLE, 4, 100, plan, plan_len, report, 1, NULL, 0, lists, candidates) == SAUCEPEBBLY_REFUSED, "a short report");
+    expect(saucepebbly_solve(TABLE, 4, SAUCEPEBBLY_OLD, 100, plan, plan_len, report, 1, NULL, 0, lists, candidates) == SAUCEPEBBLY_REFUSED, "a short report");
     expect(report[0] == 99, "a short report is not written");
     expect(all_untouched(plan, 0, plan_len), "only an answer writes the plan");
 }

@@ -7,6 +7,7 @@ mod saucepebbly {
         fn saucepebbly_solve(
             words: *const i32,
             words_len: usize,
+            mode: u32,
             limit: u32,
             plan: *mut u8,
             plan_len: usize,
@@ -20,6 +21,7 @@ mod saucepebbly {
         fn saucepebbly_approve(
             words: *const i32,
             words_len: usize,
+            mode: u32,
             plan: *const u8,
             plan_len: usize,
             report: *mut u32,
@@ -28,6 +30,9 @@ mod saucepebbly {
             candidates: *mut u32,
         ) -> u32;
     }
+
+    /// The mode in which head cycles are refused.
+    const OLD: u32 = 0;
 
     /// The memory that the entries work in. What it holds before a call does not matter.
     pub struct Memory {
@@ -73,7 +78,7 @@ mod saucepebbly {
             let (plan, plan_len) = (plan.as_mut_ptr(), plan.len());
             let (numbers, report) = (whys.as_mut_ptr().cast::<u16>(), report.as_mut_ptr());
             let (lists, candidates) = (memory.lists.as_mut_ptr(), memory.candidates.as_mut_ptr());
-            saucepebbly_solve(words.as_ptr(), words.len(), limit, plan, plan_len, report, 2, numbers, 512, lists, candidates)
+            saucepebbly_solve(words.as_ptr(), words.len(), OLD, limit, plan, plan_len, report, 2, numbers, 512, lists, candidates)
         };
         let [first, second] = report;
         let solved = match kind {
@@ -92,6 +97,7 @@ mod saucepebbly {
             saucepebbly_approve(
                 words.as_ptr(),
                 words.len(),
+                OLD,
                 plan.as_ptr(),
                 plan.len(),
                 report.as_mut_ptr(),

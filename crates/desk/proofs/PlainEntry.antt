@@ -1,6 +1,5 @@
 -- The promise of `saucepebbly_plain` has one answer only, and the place that it reports is the refusal's own. Assumes nothing.
 use mathlib.Core.Path.{_≡_, sym, _∙_, ap}
-use mathlib.Core.Bool.{false}
 use mathlib.Core.List.{List}
 use Prim.Native.Nat.{ℕ, _≤_}
 use native.Mathlib.Omega.{arith}
@@ -13,13 +12,13 @@ use Rattle.results.specs.declared.Solved.the-variants as solved
 use Rattle.judging.specs.declared.Buffer.the-variants.{Plan}
 use Rattle.judging.proofs.Places.{place-small}
 use Rattle.plain.proofs.Unique.{plainly-unique}
-use Rattle.reports.specs.Report.{narrow, firstOf, secondOf, reported}
+use Rattle.reports.specs.Report.{askOf, narrow, firstOf, secondOf, reported}
 use Rattle.desk.specs.Plain.{SolvesPlainly}
 
-pub plainly-unique-in-c : (t : List ℤ) (lim : ℕ) (old report : List ℕ) (new new′ told told′ : List ℕ) (k k′ : ℕ) → SolvesPlainly t lim old new report told k → SolvesPlainly t lim old new′ report told′ k′
+pub plainly-unique-in-c : (t : List ℤ) (mode lim : ℕ) (old report : List ℕ) (new new′ told told′ : List ℕ) (k k′ : ℕ) → SolvesPlainly t mode lim old new report told k → SolvesPlainly t mode lim old new′ report told′ k′
     → (k ≡ k′) × (new ≡ new′) × (told ≡ told′)
-plainly-unique-in-c t lim old report new new′ told told′ k k′ a b =
-    let u = plainly-unique t (record { cycles = false; limit = lim }) old new new′ (a .result) (b .result) (a .solving) (b .solving) in (
+plainly-unique-in-c t mode lim old report new new′ told told′ k k′ a b =
+    let u = plainly-unique t (askOf mode lim) old new new′ (a .result) (b .result) (a .solving) (b .solving) in (
       a .kind ∙ ap kindOf (u .0) ∙ sym (b .kind),
       u .1,
       a .report ∙ ap (λ (r : Solved). reported (firstOf r) (secondOf r) report) (u .0) ∙ sym (b .report),
@@ -28,8 +27,8 @@ plainly-unique-in-c t lim old report new new′ told told′ k k′ a b =
 kept : (n : ℕ) → n ≤ 16384 → narrow n ≡ n
 kept n h = omega (arith, h)
 
-pub plain-place : (t : List ℤ) (lim : ℕ) (old new report told : List ℕ) (k : ℕ) (s : SolvesPlainly t lim old new report told k) (f : Refusal) → s .result ≡ solved.Refused f
+pub plain-place : (t : List ℤ) (mode lim : ℕ) (old new report told : List ℕ) (k : ℕ) (s : SolvesPlainly t mode lim old new report told k) (f : Refusal) → s .result ≡ solved.Refused f
     → told ≡ reported (numberOf f) (placeOf f) report
-plain-place t lim old new report told k s f e =
+plain-place t mode lim old new report told k s f e =
     s .report ∙ ap (λ (r : Solved). reported (firstOf r) (secondOf r) report) e
     ∙ ap (λ (n : ℕ). reported (numberOf f) n report) (kept (placeOf f) (place-small t (Plan (length old)) (numberOf f) (placeOf f) (s .solving .refused (numberOf f) (placeOf f) .0 (ap reportOf e))))

@@ -8,13 +8,13 @@ use Rattle.results.specs.declared.Pinned.{Pinned}
 use Rattle.solver.specs.declared.Solution.{Solution}
 use Rattle.sessions.specs.Sessions.{Call}
 use Rattle.pins.proofs.Unique.{opening-unique, changing-unique, plans-unique}
-use Rattle.reports.specs.Report.{firstOf, secondOf, thirdOf, reported, withThird}
+use Rattle.reports.specs.Report.{modeOf, firstOf, secondOf, thirdOf, reported, withThird}
 use Rattle.reports.specs.Whys.{whysWritten}
 use Rattle.desk.specs.Session.{changedFirst, changedSecond, Opens, Changes, PlansInC}
 
-pub opens-unique : (t old new new′ : List ℤ) (report told told′ : List ℕ) (k k′ : ℕ) → Opens t old new report told k → Opens t old new′ report told′ k′ → (k ≡ k′) × (new ≡ new′) × (told ≡ told′)
-opens-unique t old new new′ report told told′ k k′ a b =
-    let u = opening-unique t old new new′ (a .result) (b .result) (a .opening) (b .opening) in (
+pub opens-unique : (t : List ℤ) (mode : ℕ) (old new new′ : List ℤ) (report told told′ : List ℕ) (k k′ : ℕ) → Opens t mode old new report told k → Opens t mode old new′ report told′ k′ → (k ≡ k′) × (new ≡ new′) × (told ≡ told′)
+opens-unique t mode old new new′ report told told′ k k′ a b =
+    let u = opening-unique (modeOf mode) t old new new′ (a .result) (b .result) (a .opening) (b .opening) in (
       a .kind ∙ ap pinnedKind (u .0) ∙ sym (b .kind),
       u .1,
       a .report ∙ ap (λ (r : Pinned). reported (changedFirst r) (changedSecond r) report) (u .0) ∙ sym (b .report),

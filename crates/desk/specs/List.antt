@@ -4,7 +4,6 @@
 --   fourWritten                       a lent report afterwards: the four numbers at its front, if it has four places; else nothing is written
 -- Assumes nothing.
 use mathlib.Core.Path.{_≡_}
-use mathlib.Core.Bool.{false}
 use mathlib.Core.List.{List, [], _∷_, _++_}
 use Prim.Native.Nat.{ℕ}
 use lib.IntN.{ℤ}
@@ -14,7 +13,7 @@ use Rattle.results.specs.declared.Counts.{Counts}
 use Rattle.results.specs.declared.Listed.{Listed}
 use Rattle.results.specs.declared.Listed.the-variants as listed
 use Rattle.lister.specs.Listing.{Listing}
-use Rattle.reports.specs.Report.{narrow}
+use Rattle.reports.specs.Report.{askOf, narrow}
 
 abbrev pub countedIn : ℕ → Counts → List ℕ
 countedIn m k = narrow m ∷ k .choices ∷ k .skips ∷ k .passes ∷ []
@@ -35,8 +34,8 @@ fourWritten four (a ∷ b ∷ []) = a ∷ b ∷ []
 fourWritten four (a ∷ b ∷ c ∷ []) = a ∷ b ∷ c ∷ []
 fourWritten four (a ∷ b ∷ c ∷ d ∷ rest) = four ++ rest
 
-pub record ListsPlans (t : List ℤ) (lim : ℕ) (oldRows newRows oldReport newReport : List ℕ) (k : ℕ) : Type 0 where
+pub record ListsPlans (t : List ℤ) (mode lim : ℕ) (oldRows newRows oldReport newReport : List ℕ) (k : ℕ) : Type 0 where
   pub result : Listed
-  pub listing : Listing t (record { cycles = false; limit = lim }) oldRows newRows result
+  pub listing : Listing t (askOf mode lim) oldRows newRows result
   pub kind : k ≡ listKind result
   pub report : newReport ≡ fourWritten (numbersOf result) oldReport

@@ -2,17 +2,16 @@
 -- believed.
 -- Assumes nothing.
 use mathlib.Core.Path.{_≡_}
-use mathlib.Core.Bool.{false}
 use mathlib.Core.List.{List}
 use Prim.Native.Nat.{ℕ}
 use lib.IntN.{ℤ}
 use Rattle.results.specs.Results.{kindOf}
 use Rattle.results.specs.declared.Solved.{Solved}
 use Rattle.plain.specs.Promise.{Plainly}
-use Rattle.reports.specs.Report.{firstOf, secondOf, reported}
+use Rattle.reports.specs.Report.{askOf, firstOf, secondOf, reported}
 
-pub record SolvesPlainly (t : List ℤ) (lim : ℕ) (oldPlan newPlan oldReport newReport : List ℕ) (k : ℕ) : Type 0 where
+pub record SolvesPlainly (t : List ℤ) (mode lim : ℕ) (oldPlan newPlan oldReport newReport : List ℕ) (k : ℕ) : Type 0 where
   pub result : Solved
-  pub solving : Plainly t (record { cycles = false; limit = lim }) oldPlan newPlan result
+  pub solving : Plainly t (askOf mode lim) oldPlan newPlan result
   pub kind : k ≡ kindOf result
   pub report : newReport ≡ reported (firstOf result) (secondOf result) oldReport

@@ -11,7 +11,7 @@ use Rattle.results.specs.declared.Pinned.the-variants as changed
 use Rattle.solver.specs.declared.Solution.{Solution}
 use Rattle.sessions.specs.Sessions.{Call}
 use Rattle.pins.specs.Session.{Opening, Changing, Plans}
-use Rattle.reports.specs.Report.{narrow, firstOf, secondOf, thirdOf, reported, withThird}
+use Rattle.reports.specs.Report.{modeOf, narrow, firstOf, secondOf, thirdOf, reported, withThird}
 use Rattle.reports.specs.Whys.{whysWritten}
 
 abbrev pub changedFirst : Pinned → ℕ
@@ -22,9 +22,9 @@ abbrev pub changedSecond : Pinned → ℕ
 changedSecond changed.Done = 0
 changedSecond (changed.Refused f) = narrow (placeOf f)
 
-pub record Opens (t old new : List ℤ) (oldReport newReport : List ℕ) (k : ℕ) : Type 0 where
+pub record Opens (t : List ℤ) (mode : ℕ) (old new : List ℤ) (oldReport newReport : List ℕ) (k : ℕ) : Type 0 where
   pub result : Pinned
-  pub opening : Opening t old new result
+  pub opening : Opening (modeOf mode) t old new result
   pub kind : k ≡ pinnedKind result
   pub report : newReport ≡ reported (changedFirst result) (changedSecond result) oldReport
 

@@ -72,18 +72,17 @@ fn write_four(report: &mut [u32], four: [u32; 4])
 #[no_mangle]
 pub extern "C" fn saucepebbly_list(
     words: &[i32],
+    mode: u32,
     limit: u32,
     rows: &mut [u8],
     report: &mut [u32],
     lists: &mut Lists,
     candidates: &mut Candidates,
 ) -> u32
-    ensures { λ k. ⌜ ListsPlans (now (words .entry)) limit (now (rows .entry)) (now (rows .exit)) (now (report .entry)) (now (report .exit)) k ⌝ }
+    ensures { λ k. ⌜ ListsPlans (now (words .entry)) mode limit (now (rows .entry)) (now (rows .exit)) (now (report .entry)) (now (report .exit)) k ⌝ }
 {
-    let ask = Ask {
-        cycles: false,
-        limit,
-    };
+    let cycles = mode != 0;
+    let ask = Ask { cycles, limit };
     let listed = lister::list_with(words, ask, rows, lists, candidates);
     write_four(report, numbers(listed));
     list_kind(listed)

@@ -10,16 +10,15 @@ use results::Ask;
 #[no_mangle]
 pub extern "C" fn saucepebbly_plain(
     words: &[i32],
+    mode: u32,
     limit: u32,
     plan: &mut [u8],
     report: &mut [u32],
 ) -> u32
-    ensures { λ k. ⌜ SolvesPlainly (now (words .entry)) limit (now (plan .entry)) (now (plan .exit)) (now (report .entry)) (now (report .exit)) k ⌝ }
+    ensures { λ k. ⌜ SolvesPlainly (now (words .entry)) mode limit (now (plan .entry)) (now (plan .exit)) (now (report .entry)) (now (report .exit)) k ⌝ }
 {
-    let ask = Ask {
-        cycles: false,
-        limit,
-    };
+    let cycles = mode != 0;
+    let ask = Ask { cycles, limit };
     let solved = plain::solve(words, ask, plan);
     write(report, first(solved), second(solved));
     kind(solved)

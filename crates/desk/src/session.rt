@@ -48,17 +48,18 @@ fn changed_second(pinned: Pinned) -> u32
     }
 }
 
-// Begins a session: the kind of the result, and in the report a refusal's number and place.
+// Begins a session in a mode: the kind of the result, and in the report a refusal's number and place.
 #[no_mangle]
 pub extern "C" fn saucepebbly_open(
     words: &[i32],
+    mode: u32,
     session: &mut Session,
     report: &mut [u32],
     lists: &mut Lists,
 ) -> u32
-    ensures { λ k. ⌜ Opens (now (words .entry)) (now (session .entry)) (now (session .exit)) (now (report .entry)) (now (report .exit)) k ⌝ }
+    ensures { λ k. ⌜ Opens (now (words .entry)) mode (now (session .entry)) (now (session .exit)) (now (report .entry)) (now (report .exit)) k ⌝ }
 {
-    let pinned = pins::open_with(words, session, lists);
+    let pinned = pins::open_with(words, mode != 0, session, lists);
     write(report, changed_first(pinned), changed_second(pinned));
     changed_kind(pinned)
 }

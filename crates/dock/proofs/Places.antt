@@ -20,12 +20,12 @@ use Rattle.dock.specs.Dock.{checkReport, Solves, Approves}
 kept : (n : ℕ) → n ≤ 16384 → narrow n ≡ n
 kept n h = omega (arith, h)
 
-pub solves-place : (t : List ℤ) (lim : ℕ) (old new report told whys shown : List ℕ) (k : ℕ) (s : Solves t lim old new report told whys shown k) (f : Refusal) → s .result ≡ solved.Refused f
+pub solves-place : (t : List ℤ) (mode lim : ℕ) (old new report told whys shown : List ℕ) (k : ℕ) (s : Solves t mode lim old new report told whys shown k) (f : Refusal) → s .result ≡ solved.Refused f
     → told ≡ withThird 0 (reported (numberOf f) (placeOf f) report)
-solves-place t lim old new report told whys shown k s f e =
+solves-place t mode lim old new report told whys shown k s f e =
     s .report ∙ ap (λ (r : Solved). withThird (thirdOf r) (reported (firstOf r) (secondOf r) report)) e ∙ ap (λ (n : ℕ). withThird 0 (reported (numberOf f) n report)) (kept (placeOf f) (place-small t (Plan (length old)) (numberOf f) (placeOf f) (s .solving .refused (numberOf f) (placeOf f) .0 (ap reportOf e))))
 
-pub approves-place : (t : List ℤ) (plan report told : List ℕ) (k : ℕ) (s : Approves t plan report told k) (f : Refusal) → s .result ≡ checked.Refused f
+pub approves-place : (t : List ℤ) (mode : ℕ) (plan report told : List ℕ) (k : ℕ) (s : Approves t mode plan report told k) (f : Refusal) → s .result ≡ checked.Refused f
     → told ≡ reported (numberOf f) (placeOf f) report
-approves-place t plan report told k s f e =
+approves-place t mode plan report told k s f e =
     s .report ∙ ap (λ (r : Checked). checkReport r report) e ∙ ap (λ (n : ℕ). reported (numberOf f) n report) (kept (placeOf f) (check-place-small t plan (numberOf f) (placeOf f) (s .approving .refused (numberOf f) (placeOf f) .0 (ap checkReportOf e))))

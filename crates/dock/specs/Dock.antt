@@ -2,7 +2,6 @@
 -- numbers (crate `reports`), and of an answer the rounds and rules as numbers. Definitions only: to be believed.
 -- Assumes nothing.
 use mathlib.Core.Path.{_≡_}
-use mathlib.Core.Bool.{false}
 use mathlib.Core.List.{List}
 use Prim.Native.Nat.{ℕ}
 use lib.IntN.{ℤ}
@@ -14,9 +13,9 @@ use Rattle.results.specs.declared.Checked.the-variants as checked
 use Rattle.rounds.specs.declared.Why.{Why}
 use Rattle.judging.specs.declared.Buffer.the-variants.{Plan}
 use Rattle.solver.specs.Solving.{Solving}
-use Rattle.solver.specs.Explaining.{Explaining}
-use Rattle.solver.specs.Approving.{Approving}
-use Rattle.reports.specs.Report.{narrow, firstOf, secondOf, thirdOf, reported, withThird}
+use Rattle.solver.specs.Explaining.{ExplainingBy}
+use Rattle.solver.specs.Approving.{ApprovingBy}
+use Rattle.reports.specs.Report.{modeOf, askOf, narrow, firstOf, secondOf, thirdOf, reported, withThird}
 use Rattle.reports.specs.Whys.{whysWritten}
 
 -- of a check only a refusal is reported
@@ -25,17 +24,17 @@ checkReport checked.Yes old = old
 checkReport checked.No old = old
 checkReport (checked.Refused f) old = reported (numberOf f) (narrow (placeOf f)) old
 
-pub record Solves (t : List ℤ) (lim : ℕ) (oldPlan newPlan oldReport newReport oldWhys newWhys : List ℕ) (k : ℕ) : Type 0 where
+pub record Solves (t : List ℤ) (mode lim : ℕ) (oldPlan newPlan oldReport newReport oldWhys newWhys : List ℕ) (k : ℕ) : Type 0 where
   pub result : Solved
   pub records : List Why
-  pub solving : Solving t (record { cycles = false; limit = lim }) oldPlan newPlan result
-  pub explaining : Explaining t (Plan (length oldPlan)) newPlan result records
+  pub solving : Solving t (askOf mode lim) oldPlan newPlan result
+  pub explaining : ExplainingBy (modeOf mode) t (Plan (length oldPlan)) newPlan result records
   pub kind : k ≡ kindOf result
   pub report : newReport ≡ withThird (thirdOf result) (reported (firstOf result) (secondOf result) oldReport)
   pub whys : newWhys ≡ whysWritten records oldWhys
 
-pub record Approves (t : List ℤ) (plan oldReport newReport : List ℕ) (k : ℕ) : Type 0 where
+pub record Approves (t : List ℤ) (mode : ℕ) (plan oldReport newReport : List ℕ) (k : ℕ) : Type 0 where
   pub result : Checked
-  pub approving : Approving t plan result
+  pub approving : ApprovingBy (modeOf mode) t plan result
   pub kind : k ≡ checkKind result
   pub report : newReport ≡ checkReport result oldReport

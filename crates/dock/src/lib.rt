@@ -7,10 +7,12 @@ use heads::Lists;
 use results::Ask;
 use results::Checked;
 
-// The night's plan: the kind of the result, in the report its numbers, and for each atom its round and its rule.
+// The night's plan: the kind of the result, in the report its numbers, and for each atom its round and its rule. The mode is 0 where head cycles are refused; any
+// other takes them (request 14).
 #[no_mangle]
 pub extern "C" fn saucepebbly_solve(
     words: &[i32],
+    mode: u32,
     limit: u32,
     plan: &mut [u8],
     report: &mut [u32],
@@ -18,12 +20,10 @@ pub extern "C" fn saucepebbly_solve(
     lists: &mut Lists,
     candidates: &mut Candidates,
 ) -> u32
-    ensures { λ k. ⌜ Solves (now (words .entry)) limit (now (plan .entry)) (now (plan .exit)) (now (report .entry)) (now (report .exit)) (now (whys .entry)) (now (whys .exit)) k ⌝ }
+    ensures { λ k. ⌜ Solves (now (words .entry)) mode limit (now (plan .entry)) (now (plan .exit)) (now (report .entry)) (now (report .exit)) (now (whys .entry)) (now (whys .exit)) k ⌝ }
 {
-    let ask = Ask {
-        cycles: false,
-        limit,
-    };
+    let cycles = mode != 0;
+    let ask = Ask { cycles, limit };
     let solution = solver::solve_with(words, ask, plan, lists, candidates);
     let solved = solution.solved;
     let records = solution.whys;
@@ -37,14 +37,15 @@ pub extern "C" fn saucepebbly_solve(
 #[no_mangle]
 pub extern "C" fn saucepebbly_approve(
     words: &[i32],
+    mode: u32,
     plan: &[u8],
     report: &mut [u32],
     lists: &mut Lists,
     candidates: &mut Candidates,
 ) -> u32
-    ensures { λ k. ⌜ Approves (now (words .entry)) (now (plan .entry)) (now (report .entry)) (now (report .exit)) k ⌝ }
+    ensures { λ k. ⌜ Approves (now (words .entry)) mode (now (plan .entry)) (now (report .entry)) (now (report .exit)) k ⌝ }
 {
-    let checked = solver::approve_with(words, false, plan, lists, candidates);
+    let checked = solver::approve_with(words, mode != 0, plan, lists, candidates);
     match checked {
         Checked::Yes => 0,
         Checked::No => 1,
