@@ -50,19 +50,19 @@ def checksum(numbers):
     return h
 
 
-def result_of(case):
+def result_of(case, cycles):
     """The program with its answer sets, or the refusal that solve gives: 1, 10, then the words."""
     if len(case.words) <= MOST_WORDS and case.length < 256:
         raise Refused(10, 0)
-    program = read_table(case.words)
+    program = read_table(case.words, cycles)
     return program, answer_sets(program)
 
 
-def line_of(case):
-    """The case's line for cases.stdout and its line for cases.sets."""
+def line_of(case, cycles=False):
+    """The case's line for cases.stdout and its line for cases.sets; with `cycles` where head cycles are taken."""
     buffer = case.plan + [7] * (case.length - len(case.plan))
     try:
-        program, sets = result_of(case)
+        program, sets = result_of(case, cycles)
     except Refused as refused:
         text = f"refused {refused.number} {refused.place}"
         return f"{text} / {checksum(buffer)} / {text}", text

@@ -1,7 +1,7 @@
 #!/usr/bin/env python3
 """Answer sets by enumeration, straight from the definition in 01.
 
-    python3 tools/enumerate.py W W ..     prints all answer sets, in 01's order, or the refusal, of a table
+    python3 tools/enumerate.py [cycles] W W ..     prints all answer sets, in 01's order, or the refusal, of a table; with `cycles` 8 is not given (request 14)
 
 There is no solver here: no propagation, no search, no foundedness. Every interpretation is tried: is it a
 model, and is no proper subset a model of its reduct. Only the standard library is used. `cases.py` makes the
@@ -112,8 +112,8 @@ def read_rule(words, atoms, aggregates):
     return Rule(head, positive, negated, literals)
 
 
-def read_table(words):
-    """The program of the words, or Refused 1 to 9. (10 and 11 are about the plan: see `cases.py`.)"""
+def read_table(words, cycles=False):
+    """The program of the words, or Refused 1 to 9; 8 is not given where head cycles are taken. (10 and 11 are about the plan: see `cases.py`.)"""
     if len(words) > MOST_WORDS:
         raise Refused(1, 0)
     reader = Words(words)
@@ -123,7 +123,8 @@ def read_table(words):
     if reader.next < len(words):
         raise Refused(3, reader.next)
     program = Program(atoms, aggregates, rules)
-    refuse_head_cycle(program)
+    if not cycles:
+        refuse_head_cycle(program)
     refuse_aggregate_cycle(program)
     return program
 
@@ -261,8 +262,9 @@ def answer_sets(program):
 
 
 def main():
+    cycles = sys.argv[1:2] == ["cycles"]
     try:
-        program = read_table([int(word) for word in sys.argv[1:]])
+        program = read_table([int(word) for word in sys.argv[2 if cycles else 1:]], cycles)
     except Refused as refused:
         print(f"refused {refused.number} {refused.place}")
         return

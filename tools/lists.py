@@ -44,11 +44,11 @@ def line_of(case):
     return ended(f"{result['end']} {len(plans)} {result['choices']} {result['skips']}", plans, case["length"])
 
 
-def all_of(words):
+def all_of(words, cycles=False):
     if words and words[0] > 8:
         return "-"
     try:
-        program = read_table(words)
+        program = read_table(words, cycles)
     except Refused as refused:
         return ended(f"refused {refused.number} {refused.place}", [], ALL)
     plans = [[x >> i & 1 for i in range(program.atoms)] for x in answer_sets(program)]
@@ -75,13 +75,17 @@ def tables_in(data):
         yield words
 
 
+def texts_of(cases):
+    """The listings as texts, each after its length: the limit, the length of the rows and the words."""
+    texts = [" ".join(str(n) for n in [case["limit"], case["length"]] + case["words"]).encode() for case in cases]
+    return b"".join(len(text).to_bytes(4, "little") + text for text in texts)
+
+
 def main(vectors, tables, out):
     with open(vectors, encoding="utf-8") as f:
         cases = [case for case in map(json.loads, f) if case.get("edition", 1) == 1 and not case.get("cycles", False)]
     with open(os.path.join(out, "stdin"), "wb") as f:
-        for case in cases:
-            text = " ".join(str(n) for n in [case["limit"], case["length"]] + case["words"]).encode()
-            f.write(len(text).to_bytes(4, "little") + text)
+        f.write(texts_of(cases))
     with open(os.path.join(out, "stdout"), "w", encoding="ascii") as f:
         f.write("".join(line_of(case) + "\n" + all_of(case["words"]) + "\n" for case in cases))
     with open(tables, "rb") as f:

@@ -5,11 +5,11 @@
 
 VECTORS have one JSON object a line. Those with a `script` are of request 10: `words`, the calls of a session (["pin", atom, value], ["unpin"], ["plan", room, limit]) and
 `results`, what an implementation that shares nothing with this repository says of each: null for a pin or removal that is done, {"refused": [number, place]}, or a
-plan's `end`, `choices`, `skips`, `passes`, `why` and `plan`. A table that is refused has its refusal in the place of the list. Cases of other editions, or with head cycles
-allowed, are passed over. The counts are those under request 4's reasons. While request 4 has not landed (--without-4) the reasons of tables with aggregates may be others:
+plan's `end`, `choices`, `skips`, `passes`, `why` and `plan`. A table that is refused has its refusal in the place of the list. Cases of other editions are passed over. The
+counts are those under request 4's reasons. While request 4 has not landed (--without-4) the reasons of tables with aggregates may be others:
 there the counts are not compared, a plan that met its limit is left out, and the others are asked for with no limit in the way, which changes neither the result nor the plan.
 
-`scripts` has a call on each line: `o` with the words, `p` atom value, `u`, `l` room limit, and `L` room limit where counts are not compared. Of each, `scripts.stdout` has what
+`scripts` has a call on each line: `o` with the words, or `c` with them where head cycles are taken (request 14), `p` atom value, `u`, `l` room limit, and `L` room limit where counts are not compared. Of each, `scripts.stdout` has what
 tools/dock/pins.c prints: the result, its numbers, the true atoms, a sum over the whole buffer, and each true atom's round and rule.
 
 `sets` has small tables, `o` with the words: those of up to five atoms in all VECTORS. Of each, `sets.stdout` has a line for every set of up to three pins: the first of the answer
@@ -61,7 +61,8 @@ def call_lines(call, result, exact):
 
 
 def script_lines(case, landed):
-    lines = [("o " + " ".join(map(str, case["words"])), "done")]
+    letter = "c" if case.get("cycles", False) else "o"
+    lines = [(letter + "".join(f" {word}" for word in case["words"]), "done")]
     if isinstance(case["results"], dict):
         return [(lines[0][0], "refused {} {}".format(*case["results"]["refused"]))]
     exact = landed or case["words"][1] == 0
@@ -108,9 +109,9 @@ def main(arguments):
     cases = []
     for path in vectors:
         with open(path, encoding="utf-8") as f:
-            cases += [case for case in map(json.loads, f) if case.get("edition", 1) == 1 and not case.get("cycles", False)]
+            cases += [case for case in map(json.loads, f) if case.get("edition", 1) == 1]
     calls = [pair for case in cases if "script" in case for pair in script_lines(case, landed)]
-    tables = sorted({tuple(case["words"]) for case in cases if is_small(case.get("words", []))}, key=lambda words: (len(words), words))[-120:]
+    tables = sorted({tuple(case["words"]) for case in cases if not case.get("cycles", False) and is_small(case.get("words", []))}, key=lambda words: (len(words), words))[-120:]
     found = [line for words in tables for line in set_lines(list(words))]
     write(os.path.join(out, "scripts"), [call for call, _ in calls])
     write(os.path.join(out, "scripts.stdout"), [line for _, line in calls])

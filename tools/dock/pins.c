@@ -48,11 +48,11 @@ static int is_kept(void) {
     return 1;
 }
 
-static uint32_t open_words(size_t count) {
+static uint32_t open_words(size_t count, uint32_t mode) {
     for (size_t i = 0; i < count; i++)
         words[i] = (int32_t)numbers[i];
     keep();
-    uint32_t kind = saucepebbly_open(words, count, session, report, 3, lists);
+    uint32_t kind = saucepebbly_open(words, count, mode, session, report, 3, lists);
     for (size_t i = 0; i < count; i++)
         words[i] = -1; /* the session has its own copy */
     return kind;
@@ -114,8 +114,8 @@ static void put_plan(size_t room, uint32_t kind, int is_counted) {
 static void run_scripts(void) {
     size_t count;
     for (int letter; (letter = next_call(&count)) >= 0;) {
-        if (letter == 'o')
-            put_changed(open_words(count));
+        if (letter == 'o' || letter == 'c')
+            put_changed(open_words(count, letter == 'c'));
         else if (letter == 'l' || letter == 'L')
             put_plan((size_t)numbers[0], make_plan((size_t)numbers[0], (uint32_t)numbers[1]), letter == 'l');
         else {
@@ -162,7 +162,7 @@ static void put_sets(int size, int n) {
 static void run_sets(void) {
     size_t count;
     while (next_call(&count) >= 0) {
-        if (open_words(count) != SAUCEPEBBLY_DONE)
+        if (open_words(count, SAUCEPEBBLY_OLD) != SAUCEPEBBLY_DONE)
             put_text("REFUSED\n");
         for (int size = 0; size < 4; size++)
             put_sets(size, (int)numbers[0]);

@@ -44,6 +44,19 @@ target/dock/runs lists <tools/dock/lists/stdin | cmp - tools/dock/lists/stdout
 echo "dock: $(($(wc -l <tools/dock/lists/stdout) / 2)) listings through C: as expected"
 target/dock/runs all <crates/run_tables/stdin | cmp - tools/dock/lists/all
 echo "dock: all plans of $(grep -c -v '^-' tools/dock/lists/all) tables through C: as expected"
+cycles=tools/dock/cycles
+target/dock/runs tables cycles <$cycles/tables | cmp - $cycles/tables.stdout
+echo "dock: $(wc -l <$cycles/tables.stdout) tables with head cycles through C: as the enumerator has them"
+target/dock/runs tables cycles <crates/run_tables/stdin | cmp - $cycles/old.stdout
+echo "dock: $(wc -l <$cycles/old.stdout) tables in the mode that takes head cycles, as the enumerator has them"
+target/dock/runs whys cycles <$cycles/solve | cmp - $cycles/solve.stdout
+target/dock/runs passes cycles <$cycles/solve | cmp - $cycles/passes.stdout
+target/dock/runs checks cycles <$cycles/check | cmp - $cycles/check.stdout
+target/dock/runs plainly cycles <$cycles/plain | cmp - $cycles/plain.stdout
+target/dock/runs lists cycles <$cycles/list | cmp - $cycles/list.stdout
+echo "dock: with head cycles $(wc -l <$cycles/passes.stdout) calls that solve, $(wc -l <$cycles/check.stdout) that check, $(wc -l <$cycles/plain.stdout) plain, $(($(wc -l <$cycles/list.stdout) / 2)) listings through C: as expected"
+target/dock/runs tables both cycles <$cycles/tables
+target/dock/runs whys both cycles <$cycles/solve
 target/dock/runs tables both <crates/run_tables/stdin
 target/dock/runs texts both <crates/run_texts/stdin
 target/dock/runs whys both <crates/run_why/stdin

@@ -1,7 +1,7 @@
-/* Runs the gate's tables and texts over the compiled library: runs tables | runs texts | runs whys | runs passes | runs lists | runs all | runs read | runs write. Input from standard input, a line
- * for each case to standard output, as the programs that the gate runs print them; of passes, as tools/passes.py tells, of lists and all, as tools/lists.py. With one word
- * more, as runs tables both, each table goes through the plain engine too: one line then says how many there were, and the status is 0 only if the two engines differ on
- * none. Needs no header of the C library, so that the kit's own compiler builds it. */
+/* Runs the gate's tables and texts over the compiled library: runs tables | checks | all | texts | plainly | whys | passes | lists | read | write. Input from standard input, a
+ * line for each case to standard output, as the programs that the gate runs print them; of passes, as tools/passes.py tells, of lists and all, as tools/lists.py, of checks and
+ * plainly, as tools/head_cycles.py. After that, `both`: each table goes through the plain engine too; one line then says how many there were, and the status is 0 only if the two
+ * engines differ on none. `cycles`: in the mode that takes head cycles. Needs no header of the C library, so that the kit's own compiler builds it. */
 #include "runner.h"
 
 static void put_atoms(const uint8_t *plan, long bytes) {
@@ -43,6 +43,7 @@ static void put_refusal(const uint32_t *report) {
 enum { PLAIN_LIMIT = 100000 };
 
 static int is_both;
+static uint32_t mode; /* of every call */
 static uint8_t other[257];
 static unsigned long alike, refused, halted, differing;
 
@@ -50,7 +51,7 @@ static unsigned long alike, refused, halted, differing;
  * a refusal: the same number and place. The plain engine meets its limit wherever the other meets one. */
 static void compare(size_t count, uint32_t limit, size_t room, uint32_t kind, const uint32_t *report) {
     uint32_t told[2] = {0, 0};
-    uint32_t plainly = saucepebbly_plain(words, count, limit < PLAIN_LIMIT ? limit : PLAIN_LIMIT, other, room, told, 2);
+    uint32_t plainly = saucepebbly_plain(words, count, mode, limit < PLAIN_LIMIT ? limit : PLAIN_LIMIT, other, room, told, 2);
     if (plainly == SAUCEPEBBLY_LIMIT) {
         halted++;
         return;
@@ -101,7 +102,7 @@ static void put_approved(long count, long room) {
     for (unsigned long code = 0; code < 1ul << words[0]; code++) {
         for (int i = 0; i < words[0]; i++)
             plan[i] = code >> i & 1;
-        if (saucepebbly_approve(words, (size_t)count, plan, (size_t)room, report, 2, lists, candidates) == SAUCEPEBBLY_YES) {
+        if (saucepebbly_approve(words, (size_t)count, mode, plan, (size_t)room, report, 2, lists, candidates) == SAUCEPEBBLY_YES) {
             found++;
             sum = mixed(sum, code);
         }
@@ -114,10 +115,10 @@ static void put_approved(long count, long room) {
 static void run_table(long count, long room) {
     uint32_t checked[2] = {0, 0}, solved[2] = {0, 0};
     soil();
-    uint32_t verdict = saucepebbly_approve(words, (size_t)count, plan, (size_t)room, checked, 2, lists, candidates);
+    uint32_t verdict = saucepebbly_approve(words, (size_t)count, mode, plan, (size_t)room, checked, 2, lists, candidates);
     keep((size_t)room);
     soil();
-    uint32_t kind = saucepebbly_solve(words, (size_t)count, 4294967295u, plan, (size_t)room, solved, 2, (uint16_t *)0, 0, lists, candidates);
+    uint32_t kind = saucepebbly_solve(words, (size_t)count, mode, 4294967295u, plan, (size_t)room, solved, 2, (uint16_t *)0, 0, lists, candidates);
     if (is_both) {
         compare((size_t)count, 4294967295u, (size_t)room, kind, solved);
         return;
@@ -165,7 +166,7 @@ static void list_table(const int32_t *table, size_t count, uint32_t limit, size_
     for (size_t i = 0; i < length; i++)
         rows[i] = 7;
     soil();
-    uint32_t kind = saucepebbly_list(table, count, limit, rows, length, report, 4, lists, candidates);
+    uint32_t kind = saucepebbly_list(table, count, mode, limit, rows, length, report, 4, lists, candidates);
     if (kind == SAUCEPEBBLY_REFUSED) {
         put_refusal(report);
         put_rows(length, 0);
@@ -186,7 +187,19 @@ static void list_all(const int32_t *table, size_t count) {
     put('\n');
 }
 
-static void run_tables(int is_list) {
+/* What the check says of the plan, alone. */
+static void check_table(long count, long room) {
+    uint32_t report[2] = {0, 0};
+    soil();
+    uint32_t verdict = saucepebbly_approve(words, (size_t)count, mode, plan, (size_t)room, report, 2, lists, candidates);
+    if (verdict == SAUCEPEBBLY_REFUSED)
+        put_refusal(report);
+    else
+        put_text(verdict == SAUCEPEBBLY_YES ? "yes" : "no");
+    put('\n');
+}
+
+static void run_tables(const char *what) {
     long count, room, given, value;
     while (next_number(&count) && next_number(&room) && next_number(&given)) {
         for (long i = 0; i < count; i++) {
@@ -199,8 +212,10 @@ static void run_tables(int is_list) {
             next_number(&value);
             plan[i] = (uint8_t)value;
         }
-        if (is_list)
+        if (what[0] == 'a')
             list_all(words, (size_t)count);
+        else if (what[0] == 'c')
+            check_table(count, room);
         else
             run_table(count, room);
     }
@@ -262,7 +277,7 @@ static void put_whys(void) {
     put('\n');
 }
 
-/* The line of a text: with a report of two places as the text program has it, with one of three the passes in the place of the plan. */
+/* The line of a text: with a report of two places as the text program has it, with one of three the passes in the place of the plan; with none, by the plain engine. */
 static void run_text(size_t n, size_t places) {
     static const char *const names[] = {"answer", "none", "limit", "refused"};
     uint32_t report[3] = {0, 0, 0}, limit = 0, kind = SAUCEPEBBLY_REFUSED;
@@ -275,17 +290,20 @@ static void run_text(size_t n, size_t places) {
     keep(256);
     soil();
     int is_read = report[0] == 0;
-    if (is_read)
-        kind = saucepebbly_solve(words, count, limit, plan, 256, report, places, whys, 512, lists, candidates);
+    if (is_read && places)
+        kind = saucepebbly_solve(words, count, mode, limit, plan, 256, report, places, whys, 512, lists, candidates);
+    else if (is_read)
+        kind = saucepebbly_plain(words, count, mode, limit, plan, 256, report, 2);
+    size_t told = places ? places : 2;
     if (is_both) {
         if (is_read)
             compare(count, limit, 256, kind, report);
         return;
     }
     put_text(names[kind]);
-    for (size_t i = 0; i < places; i++)
+    for (size_t i = 0; i < told; i++)
         put_number(report[i]);
-    if (places == 2 && kind == SAUCEPEBBLY_ANSWER) {
+    if (told == 2 && kind == SAUCEPEBBLY_ANSWER) {
         put(':');
         put_atoms(plan, 256);
     }
@@ -412,22 +430,37 @@ static void write_aspifs(void) {
     }
 }
 
+static int is_word(const char *a, const char *b) {
+    while (*a && *a == *b) {
+        a++;
+        b++;
+    }
+    return *a == *b;
+}
+
 int main(int argc, char **argv) {
-    is_both = argc == 3;
-    if (argc >= 2 && argv[1][0] == 'r')
+    const char *what = argc >= 2 ? argv[1] : "tables";
+    for (int i = 2; i < argc; i++) {
+        is_both |= is_word(argv[i], "both");
+        if (is_word(argv[i], "cycles"))
+            mode = SAUCEPEBBLY_HEAD_CYCLES;
+    }
+    if (is_word(what, "read"))
         read_aspifs();
-    else if (argc >= 2 && argv[1][0] == 'w' && argv[1][1] == 'r')
+    else if (is_word(what, "write"))
         write_aspifs();
-    else if (argc >= 2 && argv[1][0] == 'w')
-        run_texts(1, 2);
-    else if (argc >= 2 && argv[1][0] == 'p')
-        run_texts(0, 3);
-    else if (argc >= 2 && argv[1][0] == 'l')
-        run_texts(0, 4);
-    else if (argc >= 2 && argv[1][0] == 't' && argv[1][1] == 'e')
+    else if (is_word(what, "texts"))
         run_texts(0, 2);
+    else if (is_word(what, "plainly"))
+        run_texts(0, 0);
+    else if (is_word(what, "whys"))
+        run_texts(1, 2);
+    else if (is_word(what, "passes"))
+        run_texts(0, 3);
+    else if (is_word(what, "lists"))
+        run_texts(0, 4);
     else
-        run_tables(argc == 2 && argv[1][0] == 'a');
+        run_tables(what);
     if (is_both)
         return say_compared();
     flush();
