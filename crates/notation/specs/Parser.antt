@@ -38,13 +38,13 @@ _>>=_ (done x) f = f x
 _>>=_ (stop w k) f = stop w k
 _>>=_ (next g) f = next (λ t. g t >>= f)
 
--- what was made; or why not, and how many tokens are left from the one at fault on
+-- what was made, and the tokens after it; or why not, and how many tokens are left from the one at fault on
 pub data Result (A : Type 0) : Type 0 where
-  made : A → Result A
+  made : A → List Token → Result A
   failed : Why → ℕ → Result A
 
 unfoldable pub run : {A : Type 0} → Parser A → List Token → Result A
-run (done x) ts = made x
+run (done x) ts = made x ts
 run (stop w k) ts = failed w (suc (length ts + k))
 run (next f) [] = failed unexpected 0
 run (next f) (t ∷ ts) = run (f t) ts

@@ -57,7 +57,7 @@ accepting ws p (accepted c) = words ws
 accepting ws p (refusedFor r) = refused tooMany p
 
 abbrev pub readBy : List ℕ → Result Sofar → Reading
-readBy bs (made s) = accepting (encode (contents s)) (placeOf bs (length bs)) (contentsOf (encode (contents s)))
+readBy bs (made s ts) = accepting (encode (contents s)) (placeOf bs (length bs)) (contentsOf (encode (contents s)))
 readBy bs (failed w k) = refused w (placeLeft bs (startsFrom 0 0 nothing bs) k)
 
 unfoldable pub readText : List ℕ → Reading
