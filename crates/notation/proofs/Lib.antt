@@ -8,3 +8,6 @@ pub mod ReadRules
 pub mod InTurn
 pub mod ReadLiterals
 pub mod ReadTable
+pub mod Lexed
+pub mod LexedTable
+pub mod Back

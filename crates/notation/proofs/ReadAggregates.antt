@@ -20,7 +20,7 @@ use Rattle.table.specs.Roles.{within}
 use Rattle.table.specs.Contents.{Each, Ascending, AggregateInRange}
 use Rattle.notation.specs.Tokens.{Token, number, word, neck, mark, end}
 use Rattle.notation.specs.Parser.{outside, Parser, done, stop, next, _>>=_, Result, made, failed, run, lastFrom, member}
-use Rattle.notation.specs.Grammar.{elementsFrom, aggregate, functionOf, functionBy, functionIn, thresholdIn, comparisonIn}
+use Rattle.notation.specs.Aggregates.{elementsFrom, aggregate, functionOf, functionBy, functionIn, thresholdIn, comparisonIn}
 use Rattle.notation.proofs.TokenLists.{joinedT, elementT, thresholdT, comparisonMark, functionWord, restT}
 use Rattle.notation.proofs.Runs.{bind, check-run, last-snoc, snoc-long, member-then}
 

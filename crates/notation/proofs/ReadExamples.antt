@@ -9,7 +9,8 @@ use Rattle.table.specs.Grammar.{contentsOf}
 use Rattle.table.specs.Grammar as grammar
 use Rattle.notation.specs.Tokens.{tokensFrom, startsFrom, fresh, alone, placeAfter}
 use Rattle.notation.specs.Parser.{unexpected, outside, descent, misnumbered, run, member}
-use Rattle.notation.specs.Grammar.{statements, numbered, atomsGiven, nameGiven, ruleFrom, withRule, heads, body, literals, wordLiteral, literalFrom, withAggregate, withLiteral, functionOf, aggregate, elementsFrom}
+use Rattle.notation.specs.Aggregates.{functionOf, aggregate, elementsFrom}
+use Rattle.notation.specs.Grammar.{statements, numbered, atomsGiven, nameGiven, ruleFrom, withRule, heads, body, literals, wordLiteral, literalFrom, withAggregate, withLiteral}
 use Rattle.notation.specs.Reading.{words, refused, readText, contents}
 
 -- what was written is read back:

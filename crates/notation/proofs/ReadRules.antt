@@ -16,7 +16,8 @@ use Rattle.meaning.specs.declared.Function.the-variants.{Count, Sum, Min, Max}
 use Rattle.table.specs.Contents.{Each, Ascending, AggregateInRange, noAggregate, aggregateBy}
 use Rattle.notation.specs.Tokens.{Token, number, word, neck, mark, end}
 use Rattle.notation.specs.Parser.{Parser, done, stop, next, _>>=_, Result, made, failed, run, token, isMark, lastFrom, member}
-use Rattle.notation.specs.Grammar.{Body, Headed, literal, literals, body, heads, headFrom, barred, wordLiteral, literalFrom, withLiteral, withAggregate, signed, aggregate, functionIn}
+use Rattle.notation.specs.Aggregates.{aggregate, functionIn}
+use Rattle.notation.specs.Grammar.{Body, Headed, literal, literals, body, heads, headFrom, barred, wordLiteral, literalFrom, withLiteral, withAggregate, signed}
 use Rattle.notation.proofs.TokenLists.{joinedT, notT, atomT, literalT, nameT, aggregateT, restT, functionWord}
 use Rattle.notation.proofs.Runs.{bind, check-run, last-snoc, snoc-long, member-then, member-run}
 use Rattle.notation.proofs.ReadAggregates.{aggregate-run, function-then}
@@ -88,9 +89,11 @@ module _ (top : ℕ) (gs : List Aggregate) (ws : List ℤ) where
   pos-chain (p ∷ ps) l ns a m =
       let s = snoc-long l p in
       let b : Ascending top (lastFrom 0 (l ++ (p ∷ []))) ps = subst (λ (q : ℕ). Ascending top q ps) (sym (last-snoc 0 l p)) (a .2) in
-      let h : length l < 64 = omega arith in
-      (bodyOf gs (l ++ (p ∷ [])) ns ws, record { first = number p; others = []; whole = refl; dotless = refl; reads = λ us. member-then 0 top 64 l p _ us (a .0) (a .1) h },
-      subst (λ (x : List ℕ). Chain top (bodyOf gs (l ++ (p ∷ [])) ns ws) (map (atomT false) ps) (bodyOf gs x ns ws)) (append-assoc l (p ∷ []) ps) (pos-chain ps (l ++ (p ∷ [])) ns b (omega arith)))
+      let h : length l < 64 = omega arith in (
+        bodyOf gs (l ++ (p ∷ [])) ns ws,
+        record { first = number p; others = []; whole = refl; dotless = refl; reads = λ us. member-then 0 top 64 l p _ us (a .0) (a .1) h },
+        subst (λ (x : List ℕ). Chain top (bodyOf gs (l ++ (p ∷ [])) ns ws) (map (atomT false) ps) (bodyOf gs x ns ws)) (append-assoc l (p ∷ []) ps) (pos-chain ps (l ++ (p ∷ [])) ns b (omega arith)),
+      )
 
   pub neg-chain : (ns l ps : List ℕ) → Ascending top (lastFrom 0 l) ns → length l + length ns ≤ 64 → Chain top (bodyOf gs ps l ws) (map (atomT true) ns) (bodyOf gs ps (l ++ ns) ws)
   unfolding wordLiteral run
@@ -98,9 +101,11 @@ module _ (top : ℕ) (gs : List Aggregate) (ws : List ℤ) where
   neg-chain (p ∷ ns) l ps a m =
       let s = snoc-long l p in
       let b : Ascending top (lastFrom 0 (l ++ (p ∷ []))) ns = subst (λ (q : ℕ). Ascending top q ns) (sym (last-snoc 0 l p)) (a .2) in
-      let h : length l < 64 = omega arith in
-      (bodyOf gs ps (l ++ (p ∷ [])) ws, record { first = word (110 ∷ 111 ∷ 116 ∷ []); others = number p ∷ []; whole = refl; dotless = refl; reads = λ us. member-then 0 top 64 l p _ us (a .0) (a .1) h },
-      subst (λ (x : List ℕ). Chain top (bodyOf gs ps (l ++ (p ∷ [])) ws) (map (atomT true) ns) (bodyOf gs ps x ws)) (append-assoc l (p ∷ []) ns) (neg-chain ns (l ++ (p ∷ [])) ps b (omega arith)))
+      let h : length l < 64 = omega arith in (
+        bodyOf gs ps (l ++ (p ∷ [])) ws,
+        record { first = word (110 ∷ 111 ∷ 116 ∷ []); others = number p ∷ []; whole = refl; dotless = refl; reads = λ us. member-then 0 top 64 l p _ us (a .0) (a .1) h },
+        subst (λ (x : List ℕ). Chain top (bodyOf gs ps (l ++ (p ∷ [])) ws) (map (atomT true) ns) (bodyOf gs ps x ws)) (append-assoc l (p ∷ []) ns) (neg-chain ns (l ++ (p ∷ [])) ps b (omega arith)),
+      )
 
 -- ---- aggregate literals
 

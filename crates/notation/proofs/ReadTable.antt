@@ -16,7 +16,8 @@ use Rattle.notation.specs.Notation as notation
 use Rattle.notation.specs.Notation.{turns, turnsAll}
 use Rattle.notation.specs.Tokens.{Token, number, word, neck, mark, end}
 use Rattle.notation.specs.Parser.{Parser, done, next, _>>=_, Result, made, run, token, isMark, member, lastFrom}
-use Rattle.notation.specs.Grammar.{Body, Headed, Sofar, body, heads, headFrom, ruleAfter, ruleFrom, withRule, withAggregate, aggregate, numbered, atomsGiven, nameGiven, statement, statements, table}
+use Rattle.notation.specs.Aggregates.{aggregate}
+use Rattle.notation.specs.Grammar.{Body, Headed, Sofar, body, heads, headFrom, ruleAfter, ruleFrom, withRule, withAggregate, numbered, atomsGiven, nameGiven, statement, statements, table}
 use Rattle.notation.proofs.TokenLists.{joinedT, atomT, literalT, aggregateT, restT, bodyT, neckT, ruleT, atomsT, nameLineT, namesT, ruleLineT, rulesT, tableT}
 use Rattle.notation.proofs.Runs.{bind, check-run, snoc-long, member-then}
 use Rattle.notation.proofs.InTurn.{all-first, Does}
@@ -77,9 +78,12 @@ module _ (N d : ℕ) (all : List Aggregate) (ranges : Each (AggregateInRange N) 
   chain-of g m r h i k e =
       let p = pos-chain N (take g all) [] (r .pos) [] [] (h .pos) (let z = h .fewPos in omega arith) in
       let q = neg-chain N (take g all) [] (r .neg) [] (r .pos) (h .neg) (let z = h .fewNeg in omega arith) in
-      let w = aggs-chain N d all ranges few (r .pos) (r .neg) (r .aggs) g m [] i k e (h .aggs) (let z = h .fewAggs in omega arith) in
-      (w .0, w .1, chain-append N _ (bodyOf (take g all) (r .pos) [] []) _ (map (atomT false) (r .pos)) _ p
-      (chain-append N _ (bodyOf (take g all) (r .pos) (r .neg) []) _ (map (atomT true) (r .neg)) _ q (w .2)))
+      let w = aggs-chain N d all ranges few (r .pos) (r .neg) (r .aggs) g m [] i k e (h .aggs) (let z = h .fewAggs in omega arith) in (
+        w .0,
+        w .1,
+        chain-append N _ (bodyOf (take g all) (r .pos) [] []) _ (map (atomT false) (r .pos)) _ p
+            (chain-append N _ (bodyOf (take g all) (r .pos) (r .neg) []) _ (map (atomT true) (r .neg)) _ q (w .2)),
+      )
 
   parts-few : (r : NumberedRule) → RuleInRange N (length all) r → length (bodyT d all (r .pos) (r .neg) (r .aggs)) ≤ 136
   parts-few r h =

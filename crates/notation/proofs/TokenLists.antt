@@ -1,5 +1,5 @@
--- The tokens of a text in 01's notation, part by part as `Notation` has the bytes. `proofs/Lexed.antt` shows that they are its tokens, `proofs/Parsed.antt` what
--- is made of them. Assumes nothing.
+-- The tokens of a text in 01's notation, part by part as `Notation` has the bytes. `proofs/LexedTable.antt` shows that they are its tokens, `proofs/ReadTable.antt`
+-- what is made of them. Assumes nothing.
 use mathlib.Core.Bool.{Bool, true, false, cond, not}
 use mathlib.Core.List.{List, [], _∷_, _++_, map}
 use Prim.Native.Nat.{ℕ, suc}

@@ -1,4 +1,4 @@
--- What tokens may come: a parser takes one token after the other and makes something of them, or says why one of them is refused. Definitions only.
+-- What tokens may come: a parser takes one token after the other and makes something of them, or says why one of them is refused. Definitions only: to be believed.
 --   Parser A         what tokens may come, and what is made of them
 --   run p ts         reads p from the tokens ts
 --   aNumber, aMark, check, member    a number, a mark, a test of what was read, a member of a list that ascends

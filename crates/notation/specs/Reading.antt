@@ -1,4 +1,4 @@
--- Reading the notation: the words of a text, or why it is none, with line and column. Definitions only. What a person may write is a little more than what
+-- Reading the notation: the words of a text, or why it is none, with line and column. Definitions only: to be believed. What a person may write is a little more than what
 -- `textOf` writes: spaces and newlines stand anywhere between tokens, `%` begins a comment, numbers of rules may be left out, `atoms` too (then there are as
 -- many as the highest atom that is named), and the literals of a body stand in any order, so long as the positive atoms ascend, the negated ones do, and the
 -- aggregate literals do. An aggregate that is written out gets the next number; `#j` is one that has its number already.

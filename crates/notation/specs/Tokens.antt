@@ -1,4 +1,4 @@
--- The tokens of a text in 01's notation, and where they stand. Definitions only.
+-- The tokens of a text in 01's notation, and where they stand. Definitions only: to be believed.
 --   Token            a number, a word of small letters, `:-`, any other byte that is no space; and the end
 --   tokens bs        the tokens of a text: blanks stand anywhere between them, `%` begins a comment to the end of the line
 --   startsFrom       the index at which each of them begins

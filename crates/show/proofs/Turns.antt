@@ -5,9 +5,8 @@ use mathlib.Core.List.{List, [], _∷_}
 use Prim.Native.Nat.{ℕ, zero, suc, _+_, _-_, _≤_, _<_}
 use native.Mathlib.Numerals.{add-one}
 use native.Mathlib.Omega.{arith}
-use borrow.Author.Tests.{le-leb, lt-leb, eq-eqb, ne-eqb}
-use lib.Dec.{leb, eqb}
-use lib.IntN.{ℤ, pos, natAbs}
+use lib.Dec.{eqb}
+use lib.IntN.{ℤ, pos}
 use lib.ListN.{length, getD, drop, drop-of-length-le}
 use lib.Seq.{drop-cons}
 use Rattle.layout.specs.Layout.{partAt, aggsAt, pastRule}
@@ -16,23 +15,6 @@ use Rattle.table.specs.Contents.{NumberedRule, Contents}
 use Rattle.aspif_parts.specs.Held.{numberedAt, numberedFrom, heldBy}
 use Rattle.aspif_parts.proofs.Held.{numbered-on, numbered-none, numbered-aggs, held-rules, held-long}
 use Rattle.notation.specs.Notation.{turn, turns, turnsAll, inTurn, namedFrom, named}
-
--- ---- one literal
-
-module _ (d e : ℕ) (w : ℤ) where
-  pub turn-named : natAbs w ≤ d → turn d e w ≡ e
-  unfolding turn
-  turn-named h = ap (λ (b : Bool). cond b e (cond (eqb (natAbs w) e) (suc e) 0)) (le-leb (natAbs w) d h)
-
-  turn-other : d < natAbs w → turn d e w ≡ cond (eqb (natAbs w) e) (suc e) 0
-  unfolding turn
-  turn-other h = ap (λ (b : Bool). cond b e (cond (eqb (natAbs w) e) (suc e) 0)) (lt-leb (natAbs w) d h)
-
-  pub turn-next : d < natAbs w → natAbs w ≡ e → turn d e w ≡ natAbs w + 1
-  turn-next h k = turn-other h ∙ ap (λ (b : Bool). cond b (suc e) 0) (eq-eqb (natAbs w) e k) ∙ omega arith
-
-  pub turn-out : d < natAbs w → (natAbs w ≡ e → ⊥) → turn d e w ≡ 0
-  turn-out h k = turn-other h ∙ ap (λ (b : Bool). cond b (suc e) 0) (ne-eqb (natAbs w) e k)
 
 -- ---- a list, and the rules
 

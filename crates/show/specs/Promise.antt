@@ -7,7 +7,7 @@ use mathlib.Core.Path.{_≡_}
 use mathlib.Core.List.{List, _++_}
 use Prim.Native.Nat.{ℕ, _≤_, _<_}
 use lib.IntN.{ℤ}
-use lib.ListN.{length, drop}
+use lib.ListN.{length, take, drop}
 use Rattle.results.specs.declared.Refusal.{Refusal}
 use Rattle.results.specs.declared.Refusal.the-variants.{ShortBuffer}
 use Rattle.results.specs.declared.Written.{Written}
@@ -15,6 +15,7 @@ use Rattle.results.specs.declared.Written.the-variants as result
 use Rattle.table.specs.Contents.{Contents}
 use Rattle.table.specs.Grammar.{accepted, refusedFor, contentsOf}
 use Rattle.notation.specs.Notation.{textOf}
+use Rattle.notation.specs.Reading.{words, readText}
 
 pub record Laying (text old new : List ℕ) (r : Written) : Type 0 where
   pub fits : length text ≤ length old → (r ≡ result.Wrote (length text)) × (new ≡ text ++ drop (length text) old)
@@ -26,3 +27,5 @@ pub record Shows (t : List ℤ) (old new : List ℕ) (r : Written) : Type 0 wher
   pub refused : (f : Refusal) → contentsOf t ≡ refusedFor f → (r ≡ result.Refused f) × (new ≡ old)
   -- the text of what the words hold, if there is room for it
   pub wrote : (c : Contents) → contentsOf t ≡ accepted c → Laying (textOf c) old new r
+  -- what was written is read back as the words
+  pub back : (n : ℕ) → r ≡ result.Wrote n → readText (take n new) ≡ words t

@@ -3,7 +3,7 @@ use mathlib.Core.Path.{sym, ap, _∙_}
 use Prim.Native.Nat.{ℕ, _+_}
 use lib.IntN.{pos}
 use lib.ListN.{getD}
-use Rattle.show.proofs.Turns.{turn-named, turn-next, turn-out}
+use Rattle.notation.proofs.InTurn.{turn-named, turn-next, turn-out}
 use native.Mathlib.Omega.{arith}
 use borrow.Author.Needs.{needs}
 use Rattle.show.proofs.naming.turn.Statement.{statement}
