@@ -1,7 +1,7 @@
 -- A refusal is determined by its number and place, and a result by what it says: so a promise that names these fixes the result. Assumes nothing.
 --   refusal-determined                    of a refusal
 --   report-refusal, check-refusal, list-refusal   what says that it is refused with a number and a place is that refusal
---   report-determines, check-determines   of a result of solving, and of the check;  refusal-determines: of a refused listing;  pinned-determines: of a call that changes a session
+--   report-determines, check-determines   of a result of solving, and of the check;  refusal-determines: of a refused listing;  relax-determines: of a refused giving up;  pinned-determines: of a call that changes a session
 --   number-unique, place-unique           the promises of `number` and `place` have one answer each
 use mathlib.Core.Path.{_≡_, refl, sym, _∙_, ap}
 use mathlib.Core.List.{List, [], _∷_}
@@ -16,7 +16,9 @@ use Rattle.results.specs.declared.Checked.{Checked}
 use Rattle.results.specs.declared.Checked.the-variants as checked
 use Rattle.results.specs.declared.Listed.{Listed}
 use Rattle.results.specs.declared.Listed.the-variants as listed
-use Rattle.results.specs.Results.{numberOf, placeOf, Report, reportOf, refusalReport, CheckReport, checkReportOf, refusalCheck, ListReport, listReportOf, refusalListing, pinnedReportOf}
+use Rattle.results.specs.Results.{numberOf, placeOf, Report, reportOf, refusalReport, CheckReport, checkReportOf, refusalCheck, ListReport, listReportOf, refusalListing, RelaxReport, relaxReportOf, refusalRelaxed, pinnedReportOf}
+use Rattle.results.specs.declared.Relaxed.{Relaxed}
+use Rattle.results.specs.declared.Relaxed.the-variants as relaxed
 use Rattle.results.specs.declared.Pinned.{Pinned}
 use Rattle.results.specs.declared.Pinned.the-variants as changed
 
@@ -150,6 +152,20 @@ refusal-determines r s n i e h =
     let x = list-refusal r n i e in
     let y = list-refusal s n i h in
     x .1 ∙ ap listed.Refused (refusal-determined (x .0) (y .0) (x .2 ∙ sym (y .2)) (x .3 ∙ sym (y .3))) ∙ sym (y .1)
+
+-- ---- results of giving up constraints
+
+pub relax-refusal : (r : Relaxed) (n i : ℕ) → relaxReportOf r ≡ refusalRelaxed n i → (f : Refusal) × (r ≡ relaxed.Refused f) × (numberOf f ≡ n) × (placeOf f ≡ i)
+relax-refusal (relaxed.Answer k) n i e = absurd (let z = ap (λ (r : RelaxReport). r .kind) e in omega arith)
+relax-refusal relaxed.Nothing n i e = absurd (let z = ap (λ (r : RelaxReport). r .kind) e in omega arith)
+relax-refusal relaxed.Limit n i e = absurd (let z = ap (λ (r : RelaxReport). r .kind) e in omega arith)
+relax-refusal (relaxed.Refused f) n i e = (f, refl, ap (λ (r : RelaxReport). r .number) e, ap (λ (r : RelaxReport). r .place) e)
+
+pub relax-determines : (r s : Relaxed) (n i : ℕ) → relaxReportOf r ≡ refusalRelaxed n i → relaxReportOf s ≡ refusalRelaxed n i → r ≡ s
+relax-determines r s n i e h =
+    let x = relax-refusal r n i e in
+    let y = relax-refusal s n i h in
+    x .1 ∙ ap relaxed.Refused (refusal-determined (x .0) (y .0) (x .2 ∙ sym (y .2)) (x .3 ∙ sym (y .3))) ∙ sym (y .1)
 
 -- ---- results of a call that changes a session
 

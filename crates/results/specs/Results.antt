@@ -4,6 +4,7 @@
 --   reportOf             what each result of solving says; refusalReport n i: "for a refusal its number and place with counts 0"
 --   checkReportOf        what each result of the check says; refusalCheck n i: "refused with number and place"
 --   listReportOf         what each result of a listing says (request 7); refusalListing n i: a refusal's number and place, with nothing listed and counts 0
+--   relaxReportOf        what each result of giving up constraints says (02, request 13); refusalRelaxed n i: a refusal's number and place, with nothing dropped
 --   pinnedReportOf       what each result of a call that changes a session says (02, request 10); told as that of the check
 --   kindOf, countsOf, checkKind, listKind, listedOf, listCounts, pinnedKind   parts of these
 -- Assumes nothing.
@@ -17,6 +18,8 @@ use Rattle.results.specs.declared.Checked.{Checked}
 use Rattle.results.specs.declared.Checked.the-variants as checked
 use Rattle.results.specs.declared.Listed.{Listed}
 use Rattle.results.specs.declared.Listed.the-variants as listed
+use Rattle.results.specs.declared.Relaxed.{Relaxed}
+use Rattle.results.specs.declared.Relaxed.the-variants as relaxed
 use Rattle.results.specs.declared.Pinned.{Pinned}
 use Rattle.results.specs.declared.Pinned.the-variants as changed
 
@@ -147,6 +150,24 @@ listedOf r = listReportOf r .listed
 
 abbrev pub listCounts : Listed → Counts
 listCounts r = listReportOf r .counts
+
+-- ---- what giving up constraints says (request 13): how many rules are dropped, none or limit; "no choices or skips are reported"
+
+-- the kind is 0 answer, 1 none, 2 limit, 3 refused
+pub record RelaxReport : Type 0 where
+  pub kind : ℕ
+  pub dropped : ℕ
+  pub number : ℕ
+  pub place : ℕ
+
+abbrev pub relaxReportOf : Relaxed → RelaxReport
+relaxReportOf (relaxed.Answer k) = record { kind = 0; dropped = k; number = 0; place = 0 }
+relaxReportOf relaxed.Nothing = record { kind = 1; dropped = 0; number = 0; place = 0 }
+relaxReportOf relaxed.Limit = record { kind = 2; dropped = 0; number = 0; place = 0 }
+relaxReportOf (relaxed.Refused f) = record { kind = 3; dropped = 0; number = numberOf f; place = placeOf f }
+
+abbrev pub refusalRelaxed : ℕ → ℕ → RelaxReport
+refusalRelaxed n i = record { kind = 3; dropped = 0; number = n; place = i }
 
 -- ---- what a call that changes a session says: done or refused with number and place
 

@@ -98,6 +98,15 @@ pub enum Listed {
     Refused(Refusal),
 }
 
+// The result of giving up constraints (request 13): the number of the rules that are dropped; the rules with heads alone have no plan; a trial met the
+// limit; or a refusal. Only the first writes.
+pub enum Relaxed {
+    Answer(usize),
+    Nothing,
+    Limit,
+    Refused(Refusal),
+}
+
 // The result of a call that changes a session: it is done, or a refusal, which leaves the session as it stood.
 pub enum Pinned {
     Done,
