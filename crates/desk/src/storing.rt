@@ -3,8 +3,8 @@ ghost use Rattle.desk.specs.Storing.{StoresTable, RestoresTable};
 use crate::reading::read_first;
 use crate::reading::read_kind;
 use crate::reading::read_second;
-use reports::write;
 use heads::Lists;
+use reports::write;
 use stored::Words;
 
 // A table as stored bytes, with empty names: the kind of the result, and in the report its two numbers.

@@ -140,7 +140,17 @@ pub fn search_by(
             made += 1;
         };
         most = turns::greater(most, made);
-        let turn = turns::decide(t, tb, cycles, lists, out, &it.values, choices, limit, candidates);
+        let turn = turns::decide(
+            t,
+            tb,
+            cycles,
+            lists,
+            out,
+            &it.values,
+            choices,
+            limit,
+            candidates,
+        );
         match turn {
             Turn::Answer(spent) => {
                 choices += spent;

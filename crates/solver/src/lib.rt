@@ -107,7 +107,13 @@ pub fn whys_for(words: &[i32], tb: Table, solved: Solved, it: Interpretation) ->
 }
 
 // The same by the mode: where the call takes head cycles all are 0.
-pub fn whys_by(words: &[i32], tb: Table, cycles: bool, solved: Solved, it: Interpretation) -> [Why; 256]
+pub fn whys_by(
+    words: &[i32],
+    tb: Table,
+    cycles: bool,
+    solved: Solved,
+    it: Interpretation,
+) -> [Why; 256]
     requires { ⌜ Laid (now words) tb × (isAnswer solved ≡ true → AllDefined (tb .atoms) (view it .cell)) ⌝ }
     ensures { λ r. ⌜ Recorded r (whysBy cycles solved (whyOf (programOf (now (words .entry)) tb) (tb .atoms) (trueAtoms (tb .atoms) (view it .cell)))) ⌝ }
 {
