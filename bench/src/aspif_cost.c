@@ -1,19 +1,16 @@
-/* What reading and writing aspif, storing and restoring cost: the stack at its deepest, and the time by the length of the text or the bytes.
+/* What reading and writing aspif, storing and restoring cost: the time by the length of the text or the bytes. bench/src/stacks.c has the stack.
  *
- *     rt staticlib dock && rt staticlib desk
+ *     rt staticlib desk
  *     mkdir -p target/bench
- *     cc -O2 -Iinclude bench/src/aspif_cost.c target/staticlib/libdesk.a target/staticlib/libdock.a -lpthread -o target/bench/aspif_cost && target/bench/aspif_cost
- *
- * The stack of a thread is painted before the call; what has lost its paint after it was used, less what a thread uses that does nothing. */
+ *     cc -O2 -Iinclude bench/src/aspif_cost.c target/staticlib/libdesk.a -o target/bench/aspif_cost && target/bench/aspif_cost
+ */
 #define _POSIX_C_SOURCE 200809L
 #include "saucepebbly.h"
-#include <pthread.h>
 #include <stdio.h>
-#include <stdlib.h>
 #include <string.h>
 #include <time.h>
 
-enum { STACK = 1 << 20, PAINT = 0xA5, WORDS = 16384, LONGEST = 1 << 24 };
+enum { WORDS = 16384, LONGEST = 1 << 24 };
 
 static char text[LONGEST + 4096];
 static size_t length;
@@ -24,10 +21,6 @@ static size_t stored_len;
 static uint16_t lists[SAUCEPEBBLY_LISTS];
 static int32_t memory[SAUCEPEBBLY_WORDS];
 static uint32_t kind, report[2];
-
-static void *nothing(void *unused) {
-    return unused;
-}
 
 static void *reading(void *unused) {
     kind = saucepebbly_read_aspif((const uint8_t *)text, length, words, WORDS, report, 2);
@@ -47,22 +40,6 @@ static void *storing(void *unused) {
 static void *restoring(void *unused) {
     kind = saucepebbly_restore(out, stored_len, words, WORDS, report, 2, memory, lists);
     return unused;
-}
-
-static size_t used(void *(*work)(void *)) {
-    uint8_t *stack = aligned_alloc(4096, STACK);
-    pthread_attr_t attributes;
-    pthread_t thread;
-    size_t clean = 0;
-    memset(stack, PAINT, STACK);
-    pthread_attr_init(&attributes);
-    pthread_attr_setstack(&attributes, stack, STACK);
-    pthread_create(&thread, &attributes, work, NULL);
-    pthread_join(thread, NULL);
-    while (clean < STACK && stack[clean] == PAINT)
-        clean++;
-    free(stack);
-    return STACK - clean;
 }
 
 static double seconds(void *(*work)(void *), int times) {
@@ -102,11 +79,10 @@ static void make_text(size_t bytes) {
 }
 
 int main(void) {
-    size_t thread = used(nothing);
     for (size_t bytes = 1 << 16; bytes <= LONGEST; bytes *= 4) {
         make_text(bytes);
         double t = seconds(reading, 5);
-        printf("read %zu bytes: kind %u, %u words, %.2f ms, %.1f ns a byte, stack %zu\n", length, (unsigned)kind, (unsigned)report[0], 1e3 * t, 1e9 * t / (double)length, used(reading) - thread);
+        printf("read %zu bytes: kind %u, %u words, %.2f ms, %.1f ns a byte\n", length, (unsigned)kind, (unsigned)report[0], 1e3 * t, 1e9 * t / (double)length);
     }
     make_text(1 << 16);
     reading(NULL);
@@ -137,12 +113,12 @@ int main(void) {
         }
         table_len = (size_t)(at - table);
         double t = seconds(writing, 5);
-        printf("write %zu words: kind %u, %u bytes, %.2f ms, %.1f ns a byte, stack %zu\n", table_len, (unsigned)kind, (unsigned)report[0], 1e3 * t, 1e9 * t / (double)report[0], used(writing) - thread);
+        printf("write %zu words: kind %u, %u bytes, %.2f ms, %.1f ns a byte\n", table_len, (unsigned)kind, (unsigned)report[0], 1e3 * t, 1e9 * t / (double)report[0]);
         t = seconds(storing, 5);
         stored_len = report[0];
-        printf("store %zu words: kind %u, %u bytes, %.2f ms, stack %zu\n", table_len, (unsigned)kind, (unsigned)report[0], 1e3 * t, used(storing) - thread);
+        printf("store %zu words: kind %u, %u bytes, %.2f ms\n", table_len, (unsigned)kind, (unsigned)report[0], 1e3 * t);
         t = seconds(restoring, 5);
-        printf("restore %zu bytes: kind %u, %u words, %.2f ms, stack %zu\n", stored_len, (unsigned)kind, (unsigned)report[0], 1e3 * t, used(restoring) - thread);
+        printf("restore %zu bytes: kind %u, %u words, %.2f ms\n", stored_len, (unsigned)kind, (unsigned)report[0], 1e3 * t);
     }
     return 0;
 }
