@@ -17,7 +17,7 @@ use Rattle.results.specs.declared.Solved.{Solved}
 use Rattle.results.specs.Results.{countsOf}
 use Rattle.layout.specs.declared.Table.{Table}
 use Rattle.layout.specs.Layout.{Laid, programOf}
-use Rattle.heads.specs.Heads.{Listed}
+use Rattle.heads.specs.Heads.{Whole}
 use Rattle.search.specs.Engine.{Tried, plan, nothing, halted, byTest, goesOn, tries}
 use Rattle.smaller.specs.Cyclic.{testBy, baseBy}
 use Rattle.search.specs.Search.{Result, answer, noAnswer, limit}
@@ -44,12 +44,13 @@ pub record Told (n lim : ℕ) (e : Tried) (old new : List ℕ) (r : Solved) : Ty
 module _ (t : List ℤ) (tb : Table) where
   pub record Ready (lists : List ℕ) (lim : ℕ) (s : Side) (plan : List ℕ) : Type 0 where
     pub laid : Laid t tb
-    pub listed : Listed t tb lists
+    pub whole : Whole t tb lists
     pub few : s .choices ≤ lim
     pub room : tb .atoms ≤ length plan
 
-  pub record Testable (lim : ℕ) (values : List ℕ) (choices : ℕ) (plan : List ℕ) : Type 0 where
+  pub record Testable (lists : List ℕ) (lim : ℕ) (values : List ℕ) (choices : ℕ) (plan : List ℕ) : Type 0 where
     pub laid : Laid t tb
+    pub whole : Whole t tb lists
     pub defined : AllDefined (tb .atoms) (valued values)
     pub few : choices ≤ lim
     pub room : tb .atoms ≤ length plan

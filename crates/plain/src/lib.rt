@@ -80,7 +80,7 @@ fn choose(
         let sofar = n.choices;
         return try_side(t, tb, cycles, lists, limit, side.on(p, false, sofar), plan);
     }
-    tested(t, tb, cycles, limit, &side.values, choices, plan)
+    tested(t, tb, cycles, lists, limit, &side.values, choices, plan)
 }
 
 // Tries a side of a choice: ".. then propagate again".
@@ -106,17 +106,18 @@ fn tested(
     t: &[i32],
     tb: Table,
     cycles: bool,
+    lists: &Lists,
     limit: u32,
     values: &[u8; 256],
     choices: u32,
     plan: &mut [u8],
 ) -> Solved
-    requires { ⌜ Testable (now t) tb limit (now values) choices (now plan) ⌝ }
+    requires { ⌜ Testable (now t) tb (now lists) limit (now values) choices (now plan) ⌝ }
     ensures { λ r. ⌜ Tests cycles (now (t .entry)) tb limit (now (values .entry)) choices (now (plan .entry)) (now (plan .exit)) r ⌝ }
 {
     let mut candidates = [0u32; Table::RULES];
     let left = limit - choices;
-    let found = turns::test(t, tb, cycles, values, left, &mut candidates);
+    let found = turns::test(t, tb, cycles, lists, values, left, &mut candidates);
     match found {
         Tested::Passed(spent) => {
             let all = choices + spent;

@@ -70,7 +70,7 @@ choose-try-side-requires t c κs =
     let f = fewer (a .cycles) (a .t .now) (a .tb) (a .limit) (a .t6) (i .if1 .left) (k .lowest .given .0 .0) (chosen-atom t k) true (w .on .result) (w .on .ensures .0) in (
       omega (arith, e, f),
       (
-        record { laid = R .laid; listed = R .listed; few = omega (arith, h, n); room = R .room },
+        record { laid = R .laid; whole = R .whole; few = omega (arith, h, n); room = R .room },
         calm-still (a .cycles) (a .t .now) (a .tb) (a .limit) (a .t6) (i .if1 .left) (k .lowest .given .0 .0) (chosen-atom t k) true (w .on .result) (w .on .ensures .0),
       ),
     )
@@ -115,7 +115,7 @@ choose-try-side-requires-2 t c κs =
     (a .plan .now) _ (y .try-side .result) (y .try-side .ensures) (g .0 .0) (g .1) in (
       omega (arith, e, f),
       (
-        record { laid = R .laid; listed = R .listed; few = omega (arith, n, q); room = subst (λ (l : List ℕ). a .tb .atoms ≤ length l) (sym m) (R .room) },
+        record { laid = R .laid; whole = R .whole; few = omega (arith, n, q); room = subst (λ (l : List ℕ). a .tb .atoms ≤ length l) (sym m) (R .room) },
         calm-still (a .cycles) (a .t .now) (a .tb) (a .limit) (a .t6) (i .if1 .left) (k .lowest .given .0 .0) (chosen-atom t k) false (w .on2 .result) (w .on2 .ensures .0),
       ),
     )
@@ -144,7 +144,7 @@ choose-tested-requires : (t : ℕ) → choose-lts.Need-tested-requires (choose-c
 choose-tested-requires t c κs =
     let e = c .before .before .before in
     let R = e .before .before .before .before .before .before .before .pre .1 in
-    record { laid = R .laid; defined = lowest-none _ _ (none-left t e); few = R .few; room = R .room }
+    record { laid = R .laid; whole = R .whole; defined = lowest-none _ _ (none-left t e); few = R .few; room = R .room }
 
 choose-same-length-3 : (t : ℕ) → choose-lts.Need-same-length-3 (choose-calls t) (choose-at t) choose.Post
 choose-same-length-3 t c = search needs
@@ -161,7 +161,7 @@ choose-returns-5 t c =
 -- ---- `try_side`
 
 try-side-propagate-requires : (t : ℕ) → try-side-lts.Need-propagate-requires (try-side-calls t) (try-side-at t) try-side.Post
-try-side-propagate-requires t c κs = let R = c .before .pre .1 in (R .0 .laid, R .0 .listed, R .1)
+try-side-propagate-requires t c κs = let R = c .before .pre .1 in (R .0 .laid, R .0 .whole .listed, R .1)
 
 try-side-choose-requires : (t : ℕ) → try-side-lts.Need-choose-requires (try-side-calls t) (try-side-at t) try-side.Post
 try-side-choose-requires t c κs =
@@ -173,7 +173,7 @@ try-side-choose-requires t c κs =
     let n = d .propagate .ensures .kept in
     let l = R .0 .few in
     let h = no-more (a .cycles) (a .t .now) (a .tb) (a .limit) (a .side) (d .propagate .result) (R .1) (d .propagate .ensures) (atoms-in (a .t .now) (a .tb) (R .0 .laid)) in
-    (omega (arith, e, h), record { laid = R .0 .laid; listed = R .0 .listed; few = omega (arith, n, l); room = R .0 .room })
+    (omega (arith, e, h), record { laid = R .0 .laid; whole = R .0 .whole; few = omega (arith, n, l); room = R .0 .room })
 
 try-side-same-length : (t : ℕ) → try-side-lts.Need-same-length (try-side-calls t) (try-side-at t) try-side.Post
 try-side-same-length t c = search needs

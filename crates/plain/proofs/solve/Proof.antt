@@ -12,7 +12,7 @@ use Rattle.judging.specs.declared.Buffer.the-variants.{Plan}
 use Rattle.judging.specs.Refusals.{AcceptedBy}
 use Rattle.judging.specs.Judging.{Placed}
 use Rattle.judging.proofs.Judged.{plan-wide, judged-refused, judged-taken}
-use Rattle.heads.specs.Heads.{Listed}
+use Rattle.heads.specs.Heads.{Whole}
 use Rattle.layout.proofs.Inside.{atoms-in}
 use Rattle.plain.specs.declared.passes.Side.{Side}
 use Rattle.plain.proofs.Sides.{tried}
@@ -38,11 +38,11 @@ taken c =
     judged-taken (a .words .now) (Plan (length (a .plan .now))) (j .judge-in .result) (j .judge-in .ensures .0) (c .before .enum-told .given .1)
 
 -- its rules by head
-listed : (c : tie.After-tb) → let j = c .before .before .before in Listed (j .before .before .before .args .words .now) (j .judge-in .result .table) (j .judge-in .last .1 .1 .1 .0)
-listed c = c .before .before .before .judge-in .ensures .1 (c .before .enum-told .given .1) .listed
+whole : (c : tie.After-tb) → let j = c .before .before .before in Whole (j .before .before .before .args .words .now) (j .judge-in .result .table) (j .judge-in .last .1 .1 .1 .0)
+whole c = c .before .before .before .judge-in .ensures .1 (c .before .enum-told .given .1)
 
 propagate-requires : tie.Need-propagate-requires
-propagate-requires c κs = (taken (c .before) .2 .laid, listed (c .before), refl)
+propagate-requires c κs = (taken (c .before) .2 .laid, whole (c .before) .listed, refl)
 
 choose-requires : tie.Need-choose-requires
 choose-requires c κs =
@@ -52,7 +52,7 @@ choose-requires c κs =
     let f = x .2 .laid .fewAtoms in
     let w = plan-wide _ (x .1 .buffer) in
     let n = g .propagate .ensures .kept in
-    record { laid = x .2 .laid; listed = listed b; few = omega (arith, n); room = omega (arith, f, w) }
+    record { laid = x .2 .laid; whole = whole b; few = omega (arith, n); room = omega (arith, f, w) }
 
 returns : tie.Need-returns
 returns c =

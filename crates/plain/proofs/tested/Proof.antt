@@ -6,6 +6,8 @@ use Prim.Native.Nat.{ℕ, _+_, _-_, _≤_}
 use Rattle.search.specs.Search.{passed, failed, exhausted}
 use Rattle.layout.specs.Layout.{programOf}
 use Rattle.layout.proofs.Inside.{atoms-in}
+use Rattle.meaning.specs.Program.{Program}
+use Rattle.heads.proofs.Taking.{whole-rules}
 use Rattle.interpretation.specs.State.{trueAtoms}
 use Rattle.interpretation.specs.View.{valued}
 use Rattle.smaller.specs.Cyclic.{testBy}
@@ -18,19 +20,27 @@ sub-left : tie.Need-sub-left
 sub-left c = search needs
 
 test-requires : tie.Need-test-requires
-test-requires c κs = search needs
+test-requires c κs = let b = c .before .before in (b .pre .laid, b .pre .whole .listed, b .pre .defined)
 
 enum-known-found : tie.Need-enum-known-found
 enum-known-found c = search needs
 
+-- the test goes over all rules of the table
+over-all : (x : tie.After-test) → let b = x .before .before .before in let a = b .args in
+    testBy (a .cycles) (programOf (a .t .now) (a .tb)) (a .tb .atoms) (a .limit - a .choices) (trueAtoms (a .tb .atoms) (valued (a .values .now))) ≡ testedOf (x .test .result)
+over-all x =
+    let b = x .before .before .before in
+    let a = b .args in
+    ap (λ (P : Program). testBy (a .cycles) P (a .tb .atoms) (a .limit - a .choices) (trueAtoms (a .tb .atoms) (valued (a .values .now)))) (sym (whole-rules (a .t .now) (a .tb) _ (b .pre .whole))) ∙ sym (x .test .ensures)
+
 -- what the test said
 passes : (c : tie.After-found) → let x = c .before .before in let a = x .before .before .before .args in
     testBy (a .cycles) (programOf (a .t .now) (a .tb)) (a .tb .atoms) (a .limit - a .choices) (trueAtoms (a .tb .atoms) (valued (a .values .now))) ≡ passed (c .found .given .0 .0)
-passes c = sym (c .before .before .test .ensures) ∙ ap testedOf (c .found .given .1)
+passes c = over-all (c .before .before) ∙ ap testedOf (c .found .given .1)
 
 fails : (c : tie.After-found2) → let x = c .before .before in let a = x .before .before .before .args in
     testBy (a .cycles) (programOf (a .t .now) (a .tb)) (a .tb .atoms) (a .limit - a .choices) (trueAtoms (a .tb .atoms) (valued (a .values .now))) ≡ failed (c .found2 .given .0 .0)
-fails c = sym (c .before .before .test .ensures) ∙ ap testedOf (c .found2 .given .1)
+fails c = over-all (c .before .before) ∙ ap testedOf (c .found2 .given .1)
 
 add-all : tie.Need-add-all
 add-all c =
@@ -95,7 +105,7 @@ returns-3 c =
     let b = x .before .before .before in
     let a = b .args in
     limit-test (a .cycles) (a .t .now) (a .tb) (atoms-in (a .t .now) (a .tb) (b .pre .laid)) (a .limit) (a .values .now) (a .choices) (b .pre .few) (a .plan .now)
-    (c .counted3 .result) (sym (x .test .ensures) ∙ ap testedOf (e .enum-told .given .1)) (c .counted3 .ensures)
+    (c .counted3 .result) (over-all x ∙ ap testedOf (e .enum-told .given .1)) (c .counted3 .ensures)
 
 pub tested-spec : {M : Type 1} → statement M
 tested-spec =
