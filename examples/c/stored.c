@@ -65,7 +65,7 @@ static int read_file(const char *name) {
         printf(" %d", (int)words[i]);
     }
     printf("\n");
-    if (saucepebbly_solve(words, count, 1000000, plan, sizeof plan, report, 2, NULL, 0, lists, candidates) != SAUCEPEBBLY_ANSWER) {
+    if (saucepebbly_solve(words, count, SAUCEPEBBLY_OLD, 1000000, plan, sizeof plan, report, 2, NULL, 0, lists, candidates) != SAUCEPEBBLY_ANSWER) {
         return 1;
     }
     printf("answer:");

@@ -84,7 +84,7 @@ static void run_cases(void) {
 static int is_refused_as_opened(size_t count, const uint32_t *report) {
     uint32_t told[2] = {0, 0};
     soil();
-    return saucepebbly_open(words, count, session, told, 2, lists) == SAUCEPEBBLY_REFUSED && told[0] == report[0] && told[1] == report[1];
+    return saucepebbly_open(words, count, 0, session, told, 2, lists) == SAUCEPEBBLY_REFUSED && told[0] == report[0] && told[1] == report[1];
 }
 
 /* The words come back, and the rest of the buffer is kept. */
