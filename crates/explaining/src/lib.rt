@@ -171,21 +171,6 @@ pub fn nothing() -> [Why; 256]
     [none; 256]
 }
 
-// The rounds and the rules laid into the records of an interpretation, of which nothing else changes.
-pub fn keep(marks: Marks, mut it: Interpretation) -> Interpretation
-    ensures { λ r. ⌜ Kept it r (view marks) ⌝ }
-{
-    let mut i: usize = 0;
-    while i < 256 {
-        let level = it.records[i].level;
-        let round = marks.rounds[i];
-        let rule = marks.rules[i];
-        it.records[i] = Record { level, round, rule };
-        i += 1;
-    }
-    it
-}
-
 // The rounds and the rules that the records hold, atom p's at index p - 1.
 pub fn whys_of(it: Interpretation) -> [Why; 256]
     ensures { λ r. ⌜ Recorded r (keptIn (it .records)) ⌝ }
@@ -201,11 +186,20 @@ pub fn whys_of(it: Interpretation) -> [Why; 256]
     whys
 }
 
-// An answer with the round and the rule of each atom in its record: those of the definition for the true atoms, and 0 and 0 for all others.
-pub fn explain(t: &[i32], tb: Table, it: Interpretation) -> Interpretation
+// An answer with the round and the rule of each atom in its record: those of the definition for the true atoms, and 0 and 0 for all others. Nothing else of the
+// interpretation changes.
+pub fn explain(t: &[i32], tb: Table, mut it: Interpretation) -> Interpretation
     requires { ⌜ Laid (now t) tb × AllDefined (tb .atoms) (valued (it .values)) ⌝ }
     ensures { λ r. ⌜ Kept it r (whyOf (programOf (now (t .entry)) tb) (tb .atoms) (trueAtoms (tb .atoms) (valued (it .values)))) ⌝ }
 {
     let marks = mark(t, tb, &it.values);
-    keep(marks, it)
+    let mut i: usize = 0;
+    while i < 256 {
+        let level = it.records[i].level;
+        let round = marks.rounds[i];
+        let rule = marks.rules[i];
+        it.records[i] = Record { level, round, rule };
+        i += 1;
+    }
+    it
 }
