@@ -1,7 +1,7 @@
 #!/usr/bin/env python3
 """The gate's cases of showing a table in 01's notation, and the notation read by a program that shares nothing with the proofs.
 
-    python3 tools/shown.py OUT [large]    writes OUT/shown.bin and OUT/shown.stdout; with tables of more than 200 words, which are too long for rt's interpreter
+    python3 tools/shown.py OUT            writes OUT/shown.bin and OUT/shown.stdout
     python3 tools/shown.py --read FILE    prints the words of a table in notation
     python3 tools/shown.py --show WORD..  prints a table in notation
     python3 tools/shown.py --examples     fails where examples/notation/NAME.words are not the words of NAME.table, or their text does not read back
@@ -168,7 +168,7 @@ def read(text):
 # ---- The cases -----------------------------------------------------------------------------------------------
 
 
-def case_tables(large):
+def case_tables():
     rng = random.Random(27)
     seen = []
     for _ in range(100):
@@ -178,13 +178,13 @@ def case_tables(large):
         seen.append(read(open(path).read()))
     unique = []
     for words in seen:
-        if words not in unique and (len(words) <= 200 or large):
+        if words not in unique:
             unique.append(words)
     return unique
 
 
-def runs(large):
-    for place, words in enumerate_from_1(case_tables(large)):
+def runs():
+    for place, words in enumerate_from_1(case_tables()):
         try:
             text = text_of(held(words))
         except Refused as refused:
@@ -221,9 +221,8 @@ def main(arguments):
     elif arguments[0] == "--examples":
         check_examples()
     else:
-        large = arguments[1:] == ["large"]
         with open(arguments[0] + "/shown.bin", "wb") as inputs, open(arguments[0] + "/shown.stdout", "w") as expected:
-            for room, words, result, buffer in runs(large):
+            for room, words, result, buffer in runs():
                 text = " ".join(map(str, [room] + words)).encode()
                 inputs.write(len(text).to_bytes(4, "little") + text)
                 expected.write(result + "\n" + buffer + "\n")
