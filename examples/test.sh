@@ -36,6 +36,9 @@ echo "pins_c: ok"
 cc -std=c11 -Wall -Wextra -Werror -O2 -I include examples/c/list.c $desk $dock -o target/examples/list_c
 target/examples/list_c | diff - examples/expected-list
 echo "list_c: ok"
+cc -std=c11 -Wall -Wextra -Werror -O2 -I include examples/c/relax.c $desk $dock -o target/examples/relax_c
+target/examples/relax_c | diff - examples/expected-relax
+echo "relax_c: ok"
 target/examples/plain_c | diff - examples/expected-plain
 echo "plain_c: ok"
 cc -std=c11 -Wall -Wextra -Werror -O2 -I include examples/c/stored.c $desk $dock -o target/examples/stored_c

@@ -100,7 +100,8 @@ enum {
     SAUCEPEBBLY_PINS_FULL = 22,       /* pin: there are 64 pins; place 0 */
     SAUCEPEBBLY_NO_PIN = 23,          /* unpin: there is no pin; place 0 */
     SAUCEPEBBLY_NAMES_LOST = 24,      /* restore: a name is not empty, and would be lost; place 0 */
-    SAUCEPEBBLY_SHORT_WORDS = 25      /* the buffer for words has fewer than 16,384; place 0 */
+    SAUCEPEBBLY_SHORT_WORDS = 25,     /* the buffer for words has fewer than 16,384; place 0 */
+    SAUCEPEBBLY_SHORT_LIST = 26       /* relax: the list has fewer places than the table has rules; place 0 */
 };
 
 /* Looks for the first answer set with at most `limit` choices. On an answer the bytes of the table's atoms are
@@ -136,6 +137,17 @@ uint32_t saucepebbly_plain(const int32_t *words, size_t words_len, uint32_t mode
  * that. */
 uint32_t saucepebbly_list(const int32_t *words, size_t words_len, uint32_t mode, uint32_t limit, uint8_t *rows,
                           size_t rows_len, uint32_t *report, size_t report_len, uint16_t *lists, uint32_t *candidates);
+
+/* What to give up where no plan exists. The rules that have a head are taken; then the constraints are offered in table order, and each one is kept
+ * with which a plan still exists. Answer: the numbers of the dropped rules, from 1, ascending, stand at the front of `dropped`, and the first plan of
+ * the rules kept is written as by saucepebbly_solve; report: how many rules are dropped, 0. Putting back any one of them leaves no plan. Where the
+ * table has a plan, nothing is dropped. None: the rules with heads alone have no plan. Limit: one of the searches met the limit; each has it for
+ * itself. The list has a place for each rule of the table, else SAUCEPEBBLY_SHORT_LIST; the other refusals are those of saucepebbly_solve. Places
+ * behind the numbers, and on any other result the whole list and the whole plan, keep their content. There are as many searches as constraints, and
+ * one more; with a small limit the call may end with limit where saucepebbly_solve finds a plan: call it after none. */
+uint32_t saucepebbly_relax(const int32_t *words, size_t words_len, uint32_t mode, uint32_t limit, uint32_t *dropped,
+                           size_t dropped_len, uint8_t *plan, size_t plan_len, uint32_t *report, size_t report_len,
+                           uint16_t *lists, uint32_t *candidates);
 
 /* Reads a text in the ASP intermediate format, which begins with the line `asp 1 0 0`: rule statements with a disjunctive head and a normal
  * body or a weight body of positive literals, comments, and the closing 0. The words go to the front of the buffer, which has at least

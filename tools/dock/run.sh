@@ -18,7 +18,7 @@ else
     echo "dock: not looked for probe loops, since there is no objdump or no python3"
 fi
 mkdir -p target/dock
-for program in runs pins stored; do
+for program in runs pins stored relax; do
     "$tools/clang" -std=c11 -Wall -Wextra -Werror -O2 -ffreestanding -fPIE -I include -c tools/dock/$program.c -o target/dock/$program.o
     "$tools/ld.lld" -pie -melf_x86_64 -z relro -z now -z noexecstack -dynamic-linker /lib64/ld-linux-x86-64.so.2 -o target/dock/$program \
         "$lib/Scrt1.o" "$lib/crti.o" "$lib/crtbeginS.o" target/dock/$program.o "$desk" "$dock" \
@@ -65,6 +65,8 @@ target/dock/runs read <crates/run_aspif_read/stdin | cmp - crates/run_aspif_read
 echo "dock: $(wc -l <crates/run_aspif_read/stdout) texts of aspif read through C: as expected"
 target/dock/runs write <crates/run_aspif_write/stdin | cmp - crates/run_aspif_write/stdout
 echo "dock: $(grep -c "^wrote\|^refused" crates/run_aspif_write/stdout) tables written as aspif through C: as expected"
+target/dock/relax <tools/dock/relax/stdin | cmp - tools/dock/relax/stdout
+echo "dock: $(wc -l <tools/dock/relax/stdout) calls that give up constraints through C: as expected"
 target/dock/stored cases <tools/dock/stored/stdin | cmp - tools/dock/stored/stdout
 echo "dock: $(wc -l <tools/dock/stored/stdout) tables stored and restored through C: as expected"
 target/dock/stored tables <crates/run_tables/stdin

@@ -4,4 +4,5 @@ pub mod ReadingEntry
 pub mod WritingEntry
 pub mod SessionEntries
 pub mod ListEntry
+pub mod GivingEntry
 pub mod StoringEntries

@@ -4,4 +4,5 @@ pub mod Reading
 pub mod Writing
 pub mod Session
 pub mod List
+pub mod Giving
 pub mod Storing
