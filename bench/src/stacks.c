@@ -17,7 +17,7 @@ enum { SIZE = 2 << 20, PAINT = 0xA5, WORDS = 16384, TEXT = 1 << 21, ROWS = 16 };
 
 static int32_t words[WORDS + 1], back[WORDS], memory[WORDS], session[SAUCEPEBBLY_SESSION_WORDS];
 static size_t count;
-static uint32_t mode, limit, report[4];
+static uint32_t mode, limit, report[4], dropped[1024];
 static uint8_t plan[256], rows[256 * ROWS], text[TEXT];
 static size_t text_len;
 static uint16_t lists[SAUCEPEBBLY_LISTS], whys[512];
@@ -42,6 +42,11 @@ static void *plain(void *unused) {
 
 static void *list(void *unused) {
     saucepebbly_list(words, count, mode, limit < 1000 ? limit : 1000, rows, sizeof rows, report, 4, lists, candidates);
+    return unused;
+}
+
+static void *relax(void *unused) {
+    saucepebbly_relax(words, count, mode, limit < 100 ? limit : 100, dropped, 1024, plan, 256, report, 2, lists, candidates);
     return unused;
 }
 
@@ -95,6 +100,7 @@ static struct {
     {"plain", plain, 1, {0}},        {"list", list, 1, {0}},
     {"open", open_session, 1, {0}},  {"pin", pin, 0, {0}},
     {"plan", plan_session, 1, {0}},  {"unpin", unpin, 0, {0}},
+    {"relax", relax, 1, {0}},
     {"write_aspif", write_aspif, 0, {0}}, {"read_aspif", read_aspif, 0, {0}},
     {"store", store, 0, {0}},        {"restore", restore, 0, {0}},
 };
