@@ -23,7 +23,7 @@ import sys
 from cases import encoded, line_of
 from enumerate import Refused, read_table
 from generate import Case, Program, Rule, random_aggregate, random_body, some, words_of
-from lists import all_of, line_of as list_line, texts_of as list_texts
+from lists import all_of, cases_in, line_of as list_line, texts_of as list_texts
 from passes import line_of as passes_line
 from plain import line_of as plain_line
 from why import lines_of, text_of
@@ -96,20 +96,8 @@ def small_cases():
 
 def old_cases(data):
     """The cases of run_tables' file, with their plan buffers."""
-    at = 0
-
-    def number():
-        nonlocal at
-        at += 1
-        if data[at - 1] < 255:
-            return data[at - 1] - 4
-        at += 4
-        return int.from_bytes(data[at - 4 : at], "little", signed=True)
-
-    while at < len(data):
-        count, room, given = number(), number(), number()
-        words = [number() for _ in range(count)]
-        yield Case(words, [number() for _ in range(given)], room)
+    for words, room, given in cases_in(data):
+        yield Case(words, given, room)
 
 
 # ---- Vectors -----------------------------------------------------------------------------------------------------

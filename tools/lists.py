@@ -55,8 +55,8 @@ def all_of(words, cycles=False):
     return ended(f"complete {len(plans)}", plans, ALL)
 
 
-def tables_in(data):
-    """The tables of run_tables: of each the number of words, and of the plan's bytes and of those given; then these."""
+def cases_in(data):
+    """The cases of run_tables: the words, the length of the plan buffer and the bytes given. Of each the file has these three numbers, then words and bytes."""
     at = 0
 
     def number():
@@ -68,11 +68,8 @@ def tables_in(data):
         return int.from_bytes(data[at - 4 : at], "little", signed=True)
 
     while at < len(data):
-        count, _, given = number(), number(), number()
-        words = [number() for _ in range(count)]
-        for _ in range(given):
-            number()
-        yield words
+        count, room, given = number(), number(), number()
+        yield [number() for _ in range(count)], room, [number() for _ in range(given)]
 
 
 def texts_of(cases):
@@ -89,7 +86,7 @@ def main(vectors, tables, out):
     with open(os.path.join(out, "stdout"), "w", encoding="ascii") as f:
         f.write("".join(line_of(case) + "\n" + all_of(case["words"]) + "\n" for case in cases))
     with open(tables, "rb") as f:
-        lines = [all_of(words) for words in tables_in(f.read())]
+        lines = [all_of(words) for words, _, _ in cases_in(f.read())]
     with open(os.path.join(out, "all"), "w", encoding="ascii") as f:
         f.write("".join(line + "\n" for line in lines))
     print(f"{len(cases)} listings, {len(lines)} tables")

@@ -17,7 +17,7 @@ import os
 import sys
 
 from enumerate import Program, Refused, answer_sets, read_table
-from lists import tables_in
+from lists import cases_in
 
 
 def line_of(result):
@@ -63,7 +63,7 @@ def main(vectors, tables, out):
         cases = [case for case in map(json.loads, f) if case.get("edition", 1) == 1]
     calls = [([int(case["cycles"]), case["limit"], case["places"], case["plan room"]] + case["words"], case["result"]) for case in cases]
     with open(tables, "rb") as f:
-        small = [(words, tried(words)) for words in tables_in(f.read())]
+        small = [(words, tried(words)) for words, _, _ in cases_in(f.read())]
     calls += [([0, 4294967295, 1024, 256] + words, result) for words, result in small if result]
     os.makedirs(out, exist_ok=True)
     with open(os.path.join(out, "stdin"), "w", encoding="ascii") as f:

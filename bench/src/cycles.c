@@ -1,19 +1,17 @@
-/* The search where head cycles are taken (request 14), on 40 atoms in 20 pairs that depend on each other: time, counts and stack.
+/* The search where head cycles are taken (request 14), on 40 atoms in 20 pairs that depend on each other: time and counts. bench/src/stacks.c has the stack.
  *
  *     rt staticlib dock
- *     cc -O2 -Iinclude bench/src/cycles.c target/staticlib/libdock.a -lpthread -o target/bench/cycles && target/bench/cycles
+ *     cc -O2 -Iinclude bench/src/cycles.c target/staticlib/libdock.a -o target/bench/cycles && target/bench/cycles
  *
  * Both tables have, of each pair, `a | b. a :- b. b :- a.`: the one answer set has all 40 atoms, and the test has to show that it has no smaller model. In the second
- * table 20 atoms more are guessed, and a constraint leaves the last of the guesses only. The stack of a thread is painted before a call; what has lost its paint after it was
- * used. The last line is what the test takes beyond the foundedness test: the same table, without its head cycles, in both modes. */
+ * table 20 atoms more are guessed, and a constraint leaves the last of the guesses only. The last line is what the test takes beyond the foundedness
+ * test: the same table, without its head cycles, in both modes. */
 #include "saucepebbly.h"
-#include <pthread.h>
 #include <stdio.h>
-#include <stdlib.h>
 #include <string.h>
 #include <time.h>
 
-enum { PAIRS = 20, SIZE = 1 << 20, PAINT = 0xA5 };
+enum { PAIRS = 20 };
 
 static int32_t words[4096];
 static size_t count;
@@ -69,26 +67,6 @@ static void *approve(void *unused) {
     return unused;
 }
 
-static void *nothing(void *unused) {
-    return unused;
-}
-
-static size_t used(void *(*work)(void *)) {
-    uint8_t *stack = aligned_alloc(4096, SIZE);
-    pthread_attr_t attributes;
-    pthread_t thread;
-    size_t clean = 0;
-    memset(stack, PAINT, SIZE);
-    pthread_attr_init(&attributes);
-    pthread_attr_setstack(&attributes, stack, SIZE);
-    pthread_create(&thread, &attributes, work, NULL);
-    pthread_join(thread, NULL);
-    while (clean < SIZE && stack[clean] == PAINT)
-        clean++;
-    free(stack);
-    return SIZE - clean;
-}
-
 static double micros(void *(*work)(void *)) {
     double least = 1e18;
     for (int i = 0; i < 20; i++) {
@@ -103,27 +81,24 @@ static double micros(void *(*work)(void *)) {
     return least;
 }
 
-static void tell(const char *name, size_t thread) {
-    size_t deep = used(solve);
+static void tell(const char *name) {
     double time = micros(solve);
-    printf("%-44s solve: kind %u, choices %u, skips %u, passes %u, %.1f us, %zu bytes of stack\n", name, kind, report[0], report[1], report[2], time, deep - thread);
+    printf("%-44s solve: kind %u, choices %u, skips %u, passes %u, %.1f us\n", name, kind, report[0], report[1], report[2], time);
     if (kind != SAUCEPEBBLY_ANSWER)
         return;
-    deep = used(approve);
     time = micros(approve);
-    printf("%-44s check: kind %u, %.1f us, %zu bytes of stack\n", "", kind, time, deep - thread);
+    printf("%-44s check: kind %u, %.1f us\n", "", kind, time);
 }
 
 int main(void) {
-    size_t thread = used(nothing);
     mode = SAUCEPEBBLY_HEAD_CYCLES;
     make(1, 0);
-    tell("20 pairs with head cycles", thread);
+    tell("20 pairs with head cycles");
     make(1, 20);
-    tell("the same with 20 guesses before", thread);
+    tell("the same with 20 guesses before");
     make(0, 0);
-    tell("20 pairs without, head cycles taken", thread);
+    tell("20 pairs without, head cycles taken");
     mode = SAUCEPEBBLY_OLD;
-    tell("20 pairs without, old mode", thread);
+    tell("20 pairs without, old mode");
     return 0;
 }

@@ -2,7 +2,7 @@
  * line for each case to standard output, as the programs that the gate runs print them; of passes, as tools/passes.py tells, of lists and all, as tools/lists.py, of checks and
  * plainly, as tools/head_cycles.py. After that, `both`: each table goes through the plain engine too; one line then says how many there were, and the status is 0 only if the two
  * engines differ on none. `cycles`: in the mode that takes head cycles. Needs no header of the C library, so that the kit's own compiler builds it. */
-#include "runner.h"
+#include "texts.h"
 
 static void put_atoms(const uint8_t *plan, long bytes) {
     for (long i = 0; i < bytes; i++)
@@ -221,49 +221,7 @@ static void run_tables(const char *what) {
     }
 }
 
-/* ---- texts, as crates/run_texts has them: the length in four bytes, then the bytes */
-
-static uint8_t bytes[65537];
-
-static int parts(uint8_t b) {
-    return b == ' ' || b == '\n';
-}
-
-/* The limit and the words of a text; or, returned as 12 or 13, why it has none, with the place. */
-static uint32_t read_text(size_t n, uint32_t *limit, size_t *count, uint32_t *place) {
-    size_t number = 0;
-    *count = 0;
-    *place = 0;
-    if (n > 65536)
-        return 13;
-    for (size_t i = 0;;) {
-        while (i < n && parts(bytes[i]))
-            i++;
-        if (i == n)
-            break;
-        int minus = bytes[i] == '-', digits = 0, odd = 0;
-        long value = 0;
-        for (i += (size_t)minus; i < n && !parts(bytes[i]); i++) {
-            odd |= bytes[i] < '0' || bytes[i] > '9';
-            digits = 1;
-            value = value * 10 + (bytes[i] - '0');
-            if (value > 1l << 40)
-                value = 1l << 40;
-        }
-        value = minus ? -value : value;
-        int within = number == 0 ? value >= 0 && value <= 4294967295l : value >= -2147483648l && value <= 2147483647l;
-        if (odd || !digits || !within) {
-            *place = (uint32_t)number;
-            return 12;
-        }
-        if (number == 0)
-            *limit = (uint32_t)value;
-        else
-            words[(*count)++] = (int32_t)value;
-        number++;
-    }
-    return number == 0 ? 12 : 0;
-}
+/* ---- texts */
 
 /* Each atom that has a round or a rule, with both. */
 static void put_whys(void) {
@@ -282,7 +240,7 @@ static void run_text(size_t n, size_t places) {
     static const char *const names[] = {"answer", "none", "limit", "refused"};
     uint32_t report[3] = {0, 0, 0}, limit = 0, kind = SAUCEPEBBLY_REFUSED;
     size_t count;
-    report[0] = read_text(n, &limit, &count, &report[1]);
+    report[0] = read_text(n, words, &limit, &count, &report[1]);
     for (int i = 0; i < 256; i++)
         plan[i] = 0;
     for (int i = 0; i < 512; i++)
@@ -314,7 +272,7 @@ static void run_text(size_t n, size_t places) {
 static void run_list(size_t n) {
     uint32_t limit = 0, place = 0;
     size_t count;
-    if (read_text(n, &limit, &count, &place) != 0 || count == 0)
+    if (read_text(n, words, &limit, &count, &place) != 0 || count == 0)
         return;
     list_table(words + 1, count - 1, limit, (size_t)words[0], 3);
     put('\n');
@@ -323,19 +281,8 @@ static void run_list(size_t n) {
 
 /* With the rounds and rules after each line, as crates/run_why has them, or without; with reports of so many places, of a listing 4. */
 static void run_texts(int is_why, size_t places) {
-    for (;;) {
-        size_t n = 0;
-        for (int i = 0; i < 4; i++) {
-            int b = next_byte();
-            if (b < 0)
-                return;
-            n |= (size_t)b << (8 * i);
-        }
-        for (size_t i = 0; i < n; i++) {
-            int b = next_byte();
-            if (i < sizeof bytes)
-                bytes[i] = (uint8_t)b;
-        }
+    size_t n;
+    while (next_text(&n)) {
         if (places == 4)
             run_list(n);
         else
@@ -363,7 +310,7 @@ static void read_aspif(size_t n, size_t room) {
     size_t kept = 0;
     for (size_t i = 0; i < room; i++)
         words[i] = -7;
-    if (saucepebbly_read_aspif(bytes, n, words, room, report, 2) == SAUCEPEBBLY_REFUSED)
+    if (saucepebbly_read_aspif(text, n, words, room, report, 2) == SAUCEPEBBLY_REFUSED)
         put_refusal(report);
     else {
         put_text("wrote");
@@ -389,19 +336,19 @@ static void read_aspifs(void) {
         if (room < 0 || n < 0 || room > 32768 || n > 65536)
             return;
         for (long i = 0; i < n; i++)
-            bytes[i] = (uint8_t)next_byte();
+            text[i] = (uint8_t)next_byte();
         read_aspif((size_t)n, (size_t)room);
     }
 }
 
 /* A table and a buffer of so many bytes, `#` everywhere: the result and the buffer. */
 static void write_aspif(size_t count, size_t room) {
-    static uint8_t text[65536];
+    static uint8_t made[65536];
     uint32_t report[2];
     for (size_t i = 0; i < room; i++)
-        text[i] = '#';
+        made[i] = '#';
     soil();
-    if (saucepebbly_write_aspif(words, count, text, room, report, 2, lists) == SAUCEPEBBLY_REFUSED)
+    if (saucepebbly_write_aspif(words, count, made, room, report, 2, lists) == SAUCEPEBBLY_REFUSED)
         put_refusal(report);
     else {
         put_text("wrote");
@@ -409,25 +356,16 @@ static void write_aspif(size_t count, size_t room) {
     }
     put('\n');
     for (size_t i = 0; i < room; i++)
-        put((char)text[i]);
+        put((char)made[i]);
     put('\n');
 }
 
 static void write_aspifs(void) {
-    for (;;) {
-        uint32_t room, place;
-        size_t n = 0, count;
-        for (int i = 0; i < 4; i++) {
-            int b = next_byte();
-            if (b < 0)
-                return;
-            n |= (size_t)b << (8 * i);
-        }
-        for (size_t i = 0; i < n && i < sizeof bytes; i++)
-            bytes[i] = (uint8_t)next_byte();
-        if (read_text(n, &room, &count, &place) == 0 && room <= 65536)
+    uint32_t room, place;
+    size_t n, count;
+    while (next_text(&n))
+        if (read_text(n, words, &room, &count, &place) == 0 && room <= 65536)
             write_aspif(count, room);
-    }
 }
 
 static int is_word(const char *a, const char *b) {

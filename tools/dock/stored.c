@@ -3,7 +3,7 @@
  * number and place that saucepebbly_open gives, and of any other the words must come back from the bytes, the bytes from the words, 16 from a buffer that is one byte too
  * short, and 24 with a name that is not empty. One line is printed, and the status is 0 only if all is as it should be. Needs no header of the C library, so that the
  * kit's own compiler builds it. */
-#include "runner.h"
+#include "texts.h"
 
 enum { ROOM = 524288 };
 
@@ -158,49 +158,13 @@ static void run_tables(void) {
     }
 }
 
-/* ---- texts: the length in four bytes, then numbers, the first of which is the limit; a text with anything else in it is passed over */
-
-static uint8_t text[65537];
-
-static int is_table(size_t n, size_t *count) {
-    size_t numbers = 0;
-    for (size_t i = 0; i < n;) {
-        if (text[i] == ' ' || text[i] == '\n') {
-            i++;
-            continue;
-        }
-        int minus = text[i] == '-';
-        long value = 0;
-        size_t first = i += (size_t)minus;
-        for (; i < n && text[i] >= '0' && text[i] <= '9' && value < 1l << 40; i++)
-            value = value * 10 + (text[i] - '0');
-        if (i == first || (i < n && text[i] != ' ' && text[i] != '\n') || (numbers > 0 && value - minus > 2147483647l))
-            return 0;
-        if (numbers > 0)
-            words[numbers - 1] = (int32_t)(minus ? -value : value);
-        numbers++;
-    }
-    *count = numbers - 1;
-    return numbers > 0;
-}
-
+/* A text with anything but numbers in it is passed over. */
 static void run_texts(void) {
-    for (;;) {
-        size_t n = 0, count;
-        for (int i = 0; i < 4; i++) {
-            int b = next_byte();
-            if (b < 0)
-                return;
-            n |= (size_t)b << (8 * i);
-        }
-        for (size_t i = 0; i < n; i++) {
-            int b = next_byte();
-            if (i < sizeof text)
-                text[i] = (uint8_t)b;
-        }
-        if (n <= sizeof text && is_table(n, &count))
+    size_t n, count;
+    uint32_t limit, place;
+    while (next_text(&n))
+        if (read_text(n, words, &limit, &count, &place) == 0)
             run_trip(count);
-    }
 }
 
 static int say_trips(void) {
