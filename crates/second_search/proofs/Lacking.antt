@@ -1,12 +1,13 @@
--- Whether an atom is lacking, from the last atom down; and the true atoms by the values alone. Assumes nothing.
+-- Whether an atom is lacking, from the last atom down; and the true atoms, and the lowest undefined one, by the values alone. Assumes nothing.
 use Prim.Native.Nat.{ℕ, zero, suc, _-_, _≤_, _<_}
 use native.Mathlib.Omega.{arith}
 use mathlib.Core.Path.{_≡_, refl, sym, ap, ap₂, _∙_, fun-ext}
 use mathlib.Core.Bool.{Bool, true, false, not, _&&_, _||_}
+use mathlib.Core.Option.{Option, none, some}
 use mathlib.Core.List.{List, []}
 use lib.ListN.{getD}
 use Rattle.meaning.specs.Cond.{ifLt}
-use Rattle.interpretation.specs.State.{truthOf, trueAtoms}
+use Rattle.interpretation.specs.State.{truthOf, trueAtoms, lowest, lowestStep}
 use Rattle.interpretation.specs.View.{cellBy, blank, cells, valued}
 use Rattle.interpretation.specs.declared.Record.{Record}
 use Rattle.meaning.specs.Lists.{any}
@@ -56,3 +57,17 @@ trues-alone n vs rs = fun-ext at
     at : (p : ℕ) → trueAtoms n (cells vs rs) p ≡ trueAtoms n (valued vs) p
     at zero = refl
     at (suc q) = ap (λ (b : Bool). ifLt q n b false) (truth-by (getD vs q 0) (getD rs q blank .level) 0)
+
+-- ---- so does the lowest undefined atom
+
+step-by : (o : Option ℕ) (n v k l : ℕ) → lowestStep o n (cellBy v k) ≡ lowestStep o n (cellBy v l)
+step-by (some p) n v k l = refl
+step-by none n zero k l = refl
+step-by none n (suc zero) k l = refl
+step-by none n (suc (suc v)) k l = refl
+
+pub lowest-alone : (n : ℕ) (vs : List ℕ) (rs : List Record) → lowest (cells vs rs) n ≡ lowest (valued vs) n
+unfolding lowest cells
+lowest-alone zero vs rs = refl
+lowest-alone (suc n) vs rs =
+    ap (λ (o : Option ℕ). lowestStep o (suc n) (cellBy (getD vs n 0) (getD rs n blank .level))) (lowest-alone n vs rs) ∙ step-by (lowest (valued vs) n) (suc n) (getD vs n 0) (getD rs n blank .level) 0

@@ -3,7 +3,7 @@ pub mod Body
 pub mod Sets
 pub mod Walking
 pub mod Starting
-pub mod Turned
+pub mod Arrays
 pub mod Lacking
 pub mod Ordered
 pub mod Turns

@@ -21,8 +21,7 @@ use Rattle.rules.specs.declared.Step.the-variants.{Nothing, Conflict, Set}
 use Rattle.rules.specs.Demand.{demandOf, did}
 use Rattle.rules.proofs.Rule.{step-rule}
 use Rattle.smaller.proofs.Second.{reduct-takes, reduct-skips}
-use Rattle.second_search.specs.declared.Pass.{Pass}
-use Rattle.second_search.specs.Looking.{Like, verdictBy, workOf}
+use Rattle.second_search.specs.Looking.{Like}
 
 pub like-refl : (w : Work) → Like w w
 like-refl w = record { level = refl; cells = refl; same = refl; moved = refl }

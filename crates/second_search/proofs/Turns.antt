@@ -2,9 +2,10 @@
 -- Assumes nothing.
 use Prim.Native.Nat.{ℕ, zero, suc, _+_, _-_, _*_, _≤_, _<_}
 use native.Mathlib.Omega.{arith}
-use mathlib.Core.Path.{_≡_, refl, sym, _∙_, ap, subst}
+use mathlib.Core.Path.{_≡_, refl, sym, _∙_, ap, ap₂, subst}
 use mathlib.Core.Bool.{Bool, true, false, cond, not}
 use mathlib.Core.Option.{Option, none, some}
+use mathlib.Core.List.{List, map}
 use lib.Dec.{ltb}
 use Rattle.meaning.specs.Cond.{ifLt}
 use Rattle.meaning.specs.Aggregates.{Atoms}
@@ -13,8 +14,7 @@ use Rattle.meaning.specs.Answers.{reduct}
 use Rattle.meaning.proofs.Tools.{clash}
 use Rattle.levels.specs.Levels.{Levels, upTo}
 use Rattle.interpretation.specs.State.{Cell, Interpretation, lowest, trueAtoms, withCells}
-use Rattle.interpretation.specs.View.{view, cells}
-use Rattle.interpretation.specs.declared.Interpretation as code
+use Rattle.interpretation.specs.View.{valued}
 use Rattle.steps.specs.Steps.{Verdict, settled, conflict, isSettled, passes, begin}
 use Rattle.steps.proofs.Indep.{passes-cells, passes-verdict}
 use Rattle.search.specs.Search.{Problem, Tested, State, Outcome, Next, go, end, plain, answer, noAnswer, limit, openedAs, jumpedAs, goBackBy, choosingBy, ended, spend, tested, choose, settle, propagated, turn}
@@ -22,10 +22,10 @@ use Rattle.search.specs.Base.{verdictOf}
 use Rattle.search.specs.Engine.{noReasons}
 use Rattle.search.proofs.Fuel.{meas}
 use Rattle.smaller.specs.Smaller.{propagateRules, lacksOne, second}
-use Rattle.second_search.specs.declared.Pass.{Pass}
 use Rattle.second_search.specs.declared.Turn.{Turn}
 use Rattle.second_search.specs.declared.Turn.the-variants.{Smaller, Limit, Choose, Back}
-use Rattle.second_search.specs.Looking.{verdictBy, turnOf, Made}
+use Rattle.second_search.specs.Looking.{Like, verdictBy, recordAt, cellsAt, viewOf, workOf, turnOf}
+use Rattle.second_search.proofs.Lacking.{trues-alone, lowest-alone}
 
 -- the test opens no choices
 spend-none : (d : State) → spend 0 d ≡ d
@@ -75,17 +75,18 @@ back-go e C (suc j) h = let f : j ≡ suc j - 1 = omega arith in (_, refl, ap (�
 
 -- ---- the state after propagation, whatever the reasons
 
-module _ (Q : Program) (n lim : ℕ) (X : Atoms) (it : code.Interpretation) (s : Pass) (m : Made it s (passes (reduct Q X) 0 (suc n) (begin (view it) noReasons))) (c : State) (h : c .interpretation ≡ view it) where
+-- from the arrays vs, ls to us, ks
+module _ (Q : Program) (n lim : ℕ) (X : Atoms) (vs ls xs : List ℕ) (d : ℕ) (us ks : List ℕ) (changed conflicting : Bool)
+    (m : Like (workOf d (cellsAt us ks) changed conflicting) (passes (reduct Q X) 0 (suc n) (workOf d (cellsAt vs ls) false false))) (c : State) (h : c .interpretation ≡ viewOf vs ls xs d) where
   abbrev R : Program
   R = reduct Q X
 
-  cells-are : view (s .it) .cell ≡ ((second Q n X) .propagate (c .interpretation) (c .reason)) .cell
+  cells-are : cellsAt us ks ≡ ((second Q n X) .propagate (c .interpretation) (c .reason)) .cell
   unfolding propagateRules
-  cells-are = m .like .cells ∙ passes-cells R 0 (suc n) (view it) noReasons (c .reason) ∙ ap (λ (i : Interpretation). (passes R 0 (suc n) (begin i (c .reason))) .cell) (sym h)
+  cells-are = m .cells ∙ passes-cells R 0 (suc n) (viewOf vs ls xs d) noReasons (c .reason) ∙ ap (λ (i : Interpretation). (passes R 0 (suc n) (begin i (c .reason))) .cell) (sym h)
 
-  pub after-is : (propagated (second Q n X) c) .interpretation ≡ view (s .it)
-  after-is =
-      ap (withCells (c .interpretation)) (sym cells-are) ∙ ap (λ (i : Interpretation). withCells i (view (s .it) .cell)) h ∙ sym (m .kept)
+  pub after-is : (propagated (second Q n X) c) .interpretation ≡ viewOf us ks xs d
+  after-is = ap (withCells (c .interpretation)) (sym cells-are) ∙ ap (λ (i : Interpretation). withCells i (cellsAt us ks)) h
 
   settles : (b : Bool) → isSettled (verdictBy b) ≡ not b
   settles true = refl
@@ -95,14 +96,14 @@ module _ (Q : Program) (n lim : ℕ) (X : Atoms) (it : code.Interpretation) (s :
   twice true = refl
   twice false = refl
 
-  pub conflict-is : not (isSettled (((second Q n X) .propagate (c .interpretation) (c .reason)) .verdict)) ≡ s .conflict
+  pub conflict-is : not (isSettled (((second Q n X) .propagate (c .interpretation) (c .reason)) .verdict)) ≡ conflicting
   unfolding propagateRules
   conflict-is =
-      ap not (ap (λ (i : Interpretation). isSettled ((passes R 0 (suc n) (begin i (c .reason))) .verdict)) h ∙ passes-verdict R 0 (suc n) (view it) (c .reason) noReasons ∙ sym (m .like .same) ∙ settles (s .conflict))
-      ∙ twice (s .conflict)
+      ap not (ap (λ (i : Interpretation). isSettled ((passes R 0 (suc n) (begin i (c .reason))) .verdict)) h ∙ passes-verdict R 0 (suc n) (viewOf vs ls xs d) (c .reason) noReasons ∙ sym (m .same) ∙ settles conflicting)
+      ∙ twice conflicting
 
-  -- a turn, by what is decided
-  pub turned : (t : Turn) → t ≡ turnOf (s .conflict) (lowest (view (s .it) .cell) n) (lacksOne n X (trueAtoms n (view (s .it) .cell))) (ltb (c .choices) lim)
+  -- a turn, by what is decided; the code asks the values alone
+  pub turned : (t : Turn) → t ≡ turnOf conflicting (lowest (valued us) n) (lacksOne n X (trueAtoms n (valued us))) (ltb (c .choices) lim)
       → Leads n lim (propagated (second Q n X) c) t (turn (second Q n X) plain lim c)
   unfolding turn
   turned t f =
@@ -110,7 +111,8 @@ module _ (Q : Program) (n lim : ℕ) (X : Atoms) (it : code.Interpretation) (s :
       let v = ((second Q n X) .propagate (c .interpretation) (c .reason)) .verdict in
       let g : turnOf (not (isSettled v)) (lowest (e .interpretation .cell) n) (lacksOne n X (trueAtoms n (e .interpretation .cell))) (ltb (c .choices) lim) ≡ t =
       ap (λ (b : Bool). turnOf b (lowest (e .interpretation .cell) n) (lacksOne n X (trueAtoms n (e .interpretation .cell))) (ltb (c .choices) lim)) conflict-is
-      ∙ ap (λ (i : Interpretation). turnOf (s .conflict) (lowest (i .cell) n) (lacksOne n X (trueAtoms n (i .cell))) (ltb (c .choices) lim)) after-is ∙ sym f in
+      ∙ ap (λ (i : Interpretation). turnOf conflicting (lowest (i .cell) n) (lacksOne n X (trueAtoms n (i .cell))) (ltb (c .choices) lim)) after-is
+      ∙ ap₂ (λ (o : Option ℕ) (Y : Atoms). turnOf conflicting o (lacksOne n X Y) (ltb (c .choices) lim)) (lowest-alone n us (map recordAt ks)) (trues-alone n us (map recordAt ks)) ∙ sym f in
       subst (λ (x : Turn). Leads n lim e x (settle (second Q n X) plain lim e v)) g (leads Q n lim X e v)
 
 -- the measure of the defined search, by what the code keeps of its states

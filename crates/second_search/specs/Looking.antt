@@ -1,8 +1,9 @@
 -- What the code of the second search hands back, in the terms of crates `steps`, `search` and `smaller`. Definitions only; they need not be believed: the contract of
 -- the test speaks of `smallerTest` alone.
 --   Like         working states that differ in reasons only
---   workOf       the working state that a pass of the code stands for
---   Made         what a pass or passes made of an interpretation
+--   cellsAt      the cells that an array of values and one of levels stand for;  viewOf: the interpretation, with the choice atoms and the present level
+--   Whole        both arrays have their 256 elements
+--   workOf       the working state that arrays and what a pass did stand for
 --   askedOf      what is asked of a rule, by whether it is in the reduct
 --   startOf      the interpretation at the start: the atoms outside the candidate false
 --   turnOf       what a turn does after propagation, by whether there was a conflict, the lowest undefined atom, whether an atom is lacking, and the limit
@@ -12,11 +13,13 @@ use Prim.Native.Nat.{ℕ}
 use mathlib.Core.Path.{_≡_}
 use mathlib.Core.Bool.{Bool, true, false}
 use mathlib.Core.Option.{Option, none, some}
+use mathlib.Core.List.{List, map}
+use lib.ListN.{length}
 use Rattle.meaning.specs.Aggregates.{Atoms}
 use Rattle.levels.specs.Levels.{noLevels}
-use Rattle.interpretation.specs.State.{Cell, Interpretation, withCells}
-use Rattle.interpretation.specs.View.{view, cells}
-use Rattle.interpretation.specs.declared.Interpretation as code
+use Rattle.interpretation.specs.State.{Cell, Interpretation}
+use Rattle.interpretation.specs.View.{cells, choices}
+use Rattle.interpretation.specs.declared.Record.{Record}
 use Rattle.steps.specs.Steps.{Verdict, settled, conflict, isSettled, Work}
 use Rattle.search.specs.Search as search
 use Rattle.search.specs.Search.{pinnedCell}
@@ -24,11 +27,24 @@ use Rattle.search.specs.Engine.{noReasons}
 use Rattle.rules.specs.declared.Step.{Step}
 use Rattle.rules.specs.declared.Step.the-variants as step
 use Rattle.smaller.specs.Smaller.{others}
-use Rattle.second_search.specs.declared.Pass.{Pass}
 use Rattle.second_search.specs.declared.Turn.{Turn}
 use Rattle.second_search.specs.declared.Turn.the-variants.{Smaller, Limit, Choose, Back}
 use Rattle.second_search.specs.declared.Tested.{Tested}
 use Rattle.second_search.specs.declared.Tested.the-variants.{Passed, Failed, Exhausted}
+
+-- the record of an atom that was set at level l
+abbrev pub recordAt : ℕ → Record
+recordAt l = record { level = l; round = 0; rule = 0 }
+
+-- the cells by values and levels
+abbrev pub cellsAt : List ℕ → List ℕ → ℕ → Cell
+cellsAt vs ls = cells vs (map recordAt ls)
+
+abbrev pub viewOf : List ℕ → List ℕ → List ℕ → ℕ → Interpretation
+viewOf vs ls xs d = record { level = d; choice = choices xs d; cell = cellsAt vs ls }
+
+abbrev pub Whole : List ℕ → List ℕ → Type 0
+Whole vs ls = (length vs ≡ 256) × (length ls ≡ 256)
 
 pub record Like (w u : Work) : Type 0 where
   pub level : w .level ≡ u .level
@@ -40,17 +56,9 @@ abbrev pub verdictBy : Bool → Verdict
 verdictBy true = conflict noLevels
 verdictBy false = settled
 
-abbrev pub workOf : Pass → Work
-workOf s = record { level = s .it .depth; cell = cells (s .it .values) (s .it .records); reason = noReasons; verdict = verdictBy (s .conflict); changed = s .changed }
-
--- only cells differ: the levels and their choice atoms are as they were
-abbrev pub Kept : code.Interpretation → code.Interpretation → Type 0
-Kept before after = view after ≡ withCells (view before) (view after .cell)
-
--- what a pass or passes made of an interpretation: the working state w, up to reasons
-pub record Made (before : code.Interpretation) (r : Pass) (w : Work) : Type 0 where
-  pub like : Like (workOf r) w
-  pub kept : Kept before (r .it)
+-- a level and cells as a working state, with what passes say of themselves
+abbrev pub workOf : ℕ → (ℕ → Cell) → Bool → Bool → Work
+workOf d a changed conflicting = record { level = d; cell = a; reason = noReasons; verdict = verdictBy conflicting; changed = changed }
 
 abbrev pub askedOf : Bool → Step → Step
 askedOf true d = d

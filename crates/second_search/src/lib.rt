@@ -1,25 +1,24 @@
 // The second search of request 14, on the table's words: "look for a smaller model of the reduct by a second search: over the candidate's true atoms, steps a to c
 // on the reduct's rules, the lowest undefined atom tried false first, stepping back one choice at a time, keeping all atoms not counting as smaller". No reasons
-// are kept: the plain search reads none. The candidate's values are lent. Meaning: crate `smaller`; how the code's structs are read: `specs/Looking.antt`.
+// are kept: the plain search reads none. The candidate's values are lent. Meaning: crate `smaller`; how the code's arrays are read: `specs/Looking.antt`.
 ghost use mathlib.Core.Path.{_≡_};
 ghost use mathlib.Core.Bool.{Bool, true, false};
 ghost use mathlib.Core.List.{map};
 ghost use Prim.Native.Nat.{_≤_, _<_, _-_, suc};
 ghost use lib.Dec.{ltb};
 ghost use Rattle.meaning.specs.Answers.{body, reduct};
-ghost use Rattle.interpretation.specs.State.{AllDefined, trueAtoms, lowest};
-ghost use Rattle.interpretation.specs.View.{view, valued, found};
+ghost use lib.ListN.{length};
+ghost use Rattle.interpretation.specs.State.{AllDefined, trueAtoms, lowest, undefined, defined, put, undone};
+ghost use Rattle.interpretation.specs.View.{valued, choices, found};
 ghost use Rattle.layout.specs.Layout.{Laid, RuleLies, ruleAt};
 ghost use Rattle.heads.specs.Heads.{AllLie};
-ghost use Rattle.steps.specs.Steps.{pass, passes, begin};
+ghost use Rattle.steps.specs.Steps.{pass, passes};
 ghost use Rattle.search.specs.Search.{openedAs, jumpedAs};
-ghost use Rattle.search.specs.Engine.{noReasons};
 ghost use Rattle.rules.specs.Demand.{demandOf};
 ghost use Rattle.smaller.specs.Smaller.{lacksOne, smallerTest};
 ghost use Rattle.smaller.specs.Cyclic.{hasSmaller};
-ghost use Rattle.second_search.specs.Looking.{Made, askedOf, startOf, turnOf, testedOf};
+ghost use Rattle.second_search.specs.Looking.{Like, workOf, cellsAt, viewOf, Whole, askedOf, startCells, turnOf, testedOf};
 use interpretation::Choice;
-use interpretation::Interpretation;
 use layout::Table;
 use rules::Step;
 
@@ -30,9 +29,8 @@ pub enum Tested {
     Exhausted,
 }
 
-// What a pass, or passes, made of the interpretation.
-pub struct Pass {
-    pub it: Interpretation,
+// What a pass, or passes, did: whether an atom was set, and whether there was a conflict.
+pub struct Steps {
     pub changed: bool,
     pub conflict: bool,
 }
@@ -70,40 +68,68 @@ pub fn asked(t: &[i32], tb: Table, at: usize, candidate: &[u8; 256], values: &[u
     Step::Nothing
 }
 
+// Atom p gets a value at a level.
+pub fn set(p: usize, v: bool, level: u16, values: &mut [u8; 256], levels: &mut [u16; 256])
+    requires { ⌜ (1 ≤ p) × (p ≤ 256) × Whole (now values) (now levels) ⌝ }
+    ensures { λ _. ⌜ Whole (now (values .exit)) (now (levels .exit))
+        × (cellsAt (now (values .exit)) (now (levels .exit)) ≡ put p (defined v level) (cellsAt (now (values .entry)) (now (levels .entry)))) ⌝ }
+{
+    let i = p - 1;
+    values[i] = interpretation::byte(v);
+    levels[i] = level;
+}
+
+// All that was set at level m or later is undone.
+pub fn undo(m: u16, values: &mut [u8; 256], levels: &mut [u16; 256])
+    requires { ⌜ Whole (now values) (now levels) ⌝ }
+    ensures { λ _. ⌜ Whole (now (values .exit)) (now (levels .exit))
+        × (cellsAt (now (values .exit)) (now (levels .exit)) ≡ (λ q. undone m (cellsAt (now (values .entry)) (now (levels .entry)) q))) ⌝ }
+{
+    let mut i: usize = 256;
+    while 0 < i {
+        i -= 1;
+        if m <= levels[i] {
+            values[i] = 0;
+            levels[i] = 0;
+        }
+    }
+}
+
 // A pass: steps a to c at the reduct's rules, in the order of the places.
 pub fn rule_steps(
     t: &[i32],
     tb: Table,
     places: &[u16],
     candidate: &[u8; 256],
-    mut it: Interpretation,
-) -> Pass
-    requires { ⌜ Laid (now t) tb × AllLie tb (now t) (now places) × AllDefined (tb .atoms) (valued (now candidate)) ⌝ }
-    ensures { λ r. ⌜ Made it r (pass (reduct (map (ruleAt (now (t .entry))) (now (places .entry))) (trueAtoms (tb .atoms) (valued (now (candidate .entry))))) 0 (begin (view it) noReasons)) ⌝ }
+    level: u16,
+    values: &mut [u8; 256],
+    levels: &mut [u16; 256],
+) -> Steps
+    requires { ⌜ Laid (now t) tb × AllLie tb (now t) (now places) × AllDefined (tb .atoms) (valued (now candidate)) × Whole (now values) (now levels) ⌝ }
+    ensures { λ r. ⌜ Whole (now (values .exit)) (now (levels .exit))
+        × Like (workOf level (cellsAt (now (values .exit)) (now (levels .exit))) (r .changed) (r .conflict)) (pass (reduct (map (ruleAt (now (t .entry))) (now (places .entry))) (trueAtoms (tb .atoms) (valued (now (candidate .entry))))) 0 (workOf level (cellsAt (now (values .entry)) (now (levels .entry))) false false)) ⌝ }
 {
     let mut changed = false;
     let mut i: usize = 0;
     while i < places.len() {
         let at = places[i] as usize;
-        let step = asked(t, tb, at, candidate, &it.values);
+        let step = asked(t, tb, at, candidate, values);
         match step {
             Step::Nothing => {}
             Step::Conflict => {
-                return Pass {
-                    it,
+                return Steps {
                     changed,
                     conflict: true,
                 };
             }
             Step::Set(p, v) => {
-                it = it.set(p, v);
+                set(p, v, level, values, levels);
                 changed = true;
             }
         }
         i += 1;
     }
-    Pass {
-        it,
+    Steps {
         changed,
         conflict: false,
     }
@@ -115,48 +141,46 @@ pub fn propagate(
     tb: Table,
     places: &[u16],
     candidate: &[u8; 256],
-    mut it: Interpretation,
-) -> Pass
-    requires { ⌜ Laid (now t) tb × AllLie tb (now t) (now places) × AllDefined (tb .atoms) (valued (now candidate)) ⌝ }
-    ensures { λ r. ⌜ Made it r (passes (reduct (map (ruleAt (now (t .entry))) (now (places .entry))) (trueAtoms (tb .atoms) (valued (now (candidate .entry))))) 0 (suc (tb .atoms)) (begin (view it) noReasons)) ⌝ }
+    level: u16,
+    values: &mut [u8; 256],
+    levels: &mut [u16; 256],
+) -> Steps
+    requires { ⌜ Laid (now t) tb × AllLie tb (now t) (now places) × AllDefined (tb .atoms) (valued (now candidate)) × Whole (now values) (now levels) ⌝ }
+    ensures { λ r. ⌜ Whole (now (values .exit)) (now (levels .exit))
+        × Like (workOf level (cellsAt (now (values .exit)) (now (levels .exit))) (r .changed) (r .conflict)) (passes (reduct (map (ruleAt (now (t .entry))) (now (places .entry))) (trueAtoms (tb .atoms) (valued (now (candidate .entry))))) 0 (suc (tb .atoms)) (workOf level (cellsAt (now (values .entry)) (now (levels .entry))) false false)) ⌝ }
 {
     let mut left = tb.atoms + 1;
     let mut changed = false;
     while 0 < left {
-        let made = rule_steps(t, tb, places, candidate, it);
+        let made = rule_steps(t, tb, places, candidate, level, values, levels);
         if made.conflict {
             return made;
         }
         if !made.changed {
             return made;
         }
-        let now = made.it;
-        it = now;
         changed = true;
         left -= 1;
     }
-    Pass {
-        it,
+    Steps {
         changed,
         conflict: false,
     }
 }
 
-// The interpretation at the start: the candidate's true atoms are undefined, all other atoms are false.
-pub fn start(candidate: &[u8; 256], n: usize) -> Interpretation
-    requires { ⌜ n ≤ 256 ⌝ }
-    ensures { λ r. ⌜ view r ≡ startOf n (trueAtoms n (valued (now (candidate .entry)))) ⌝ }
+// What holds at the start, set where all was undefined: the candidate's true atoms stay so, all other atoms are false.
+pub fn start(candidate: &[u8; 256], n: usize, values: &mut [u8; 256], levels: &mut [u16; 256])
+    requires { ⌜ (n ≤ 256) × Whole (now values) (now levels) × (cellsAt (now values) (now levels) ≡ (λ p. undefined)) ⌝ }
+    ensures { λ _. ⌜ Whole (now (values .exit)) (now (levels .exit)) × (cellsAt (now (values .exit)) (now (levels .exit)) ≡ startCells n (trueAtoms n (valued (now (candidate .entry))))) ⌝ }
 {
-    let mut it = Interpretation::start();
     let mut i: usize = 0;
     while i < n {
         let p = i + 1;
         if !foundation::is_true(candidate, p) {
-            it = it.set(p, false);
+            set(p, false, 0, values, levels);
         }
         i += 1;
     }
-    it
 }
 
 // Whether the values keep all of the candidate's true atoms, or lack one.
@@ -176,29 +200,59 @@ pub fn lacks_one(candidate: &[u8; 256], values: &[u8; 256], n: usize) -> bool
     false
 }
 
-// One more level, with atom p false as its choice.
-pub fn opened(it: Interpretation, p: usize) -> Interpretation
-    requires { ⌜ (1 ≤ p) × (p ≤ 256) × (it .depth < 256) ⌝ }
-    ensures { λ r. ⌜ view r ≡ openedAs false p (view it) ⌝ }
+// The lowest undefined atom of 1 to n.
+pub fn lowest_undefined(values: &[u8; 256], n: usize) -> Choice
+    requires { ⌜ n ≤ 256 ⌝ }
+    ensures { λ r. ⌜ found r ≡ lowest (valued (now (values .entry))) n ⌝ }
 {
-    let mut next = it.open(p);
-    let i = p - 1;
-    next.values[i] = 2;
-    next
+    let mut i: usize = 0;
+    while i < n {
+        let value = values[i];
+        if value == 0 {
+            let p = i + 1;
+            return Choice::Atom(p);
+        }
+        i += 1;
+    }
+    Choice::Nothing
 }
 
-// All that was set at the present level is undone, and its choice atom becomes true, one level less present.
-pub fn flipped(it: Interpretation) -> Interpretation
-    requires { ⌜ (1 ≤ it .depth) × (it .depth ≤ 256) × (1 ≤ view it .choice (it .depth)) × (view it .choice (it .depth) ≤ 256) ⌝ }
-    ensures { λ r. ⌜ view r ≡ jumpedAs true (it .depth - 1) (view it) ⌝ }
+// One more level, with atom p false as its choice. The result is the new level.
+pub fn opened(
+    p: usize,
+    depth: u16,
+    values: &mut [u8; 256],
+    levels: &mut [u16; 256],
+    chosen: &mut [u16; 256],
+) -> u16
+    requires { ⌜ (1 ≤ p) × (p ≤ 256) × (depth < 256) × Whole (now values) (now levels) × (length (now chosen) ≡ 256) ⌝ }
+    ensures { λ r. ⌜ Whole (now (values .exit)) (now (levels .exit)) × (length (now (chosen .exit)) ≡ 256)
+        × (viewOf (now (values .exit)) (now (levels .exit)) (now (chosen .exit)) r ≡ openedAs false p (viewOf (now (values .entry)) (now (levels .entry)) (now (chosen .entry)) depth)) ⌝ }
 {
-    let m = it.depth;
-    let k = m as usize - 1;
-    let p = it.chosen[k] as usize;
-    let mut next = it.jump(m);
-    let i = p - 1;
-    next.values[i] = 1;
-    next
+    let k = depth as usize;
+    let level = depth + 1;
+    chosen[k] = p as u16;
+    set(p, false, level, values, levels);
+    level
+}
+
+// All that was set at the present level is undone, and its choice atom becomes true, one level less present. The result is the level that is left.
+pub fn flipped(
+    depth: u16,
+    chosen: &[u16; 256],
+    values: &mut [u8; 256],
+    levels: &mut [u16; 256],
+) -> u16
+    requires { ⌜ (1 ≤ depth) × (depth ≤ 256) × (1 ≤ choices (now chosen) depth depth) × (choices (now chosen) depth depth ≤ 256) × Whole (now values) (now levels) ⌝ }
+    ensures { λ r. ⌜ Whole (now (values .exit)) (now (levels .exit))
+        × (viewOf (now (values .exit)) (now (levels .exit)) (now (chosen .entry)) r ≡ jumpedAs true (depth - 1) (viewOf (now (values .entry)) (now (levels .entry)) (now (chosen .entry)) depth)) ⌝ }
+{
+    let level = depth - 1;
+    let k = level as usize;
+    let p = chosen[k] as usize;
+    undo(depth, values, levels);
+    set(p, true, level, values, levels);
+    level
 }
 
 // What is to be done after a propagation. "keeping all atoms not counting as smaller": then it goes back as after a conflict.
@@ -206,17 +260,17 @@ pub fn decide(
     candidate: &[u8; 256],
     n: usize,
     conflict: bool,
-    it: Interpretation,
+    values: &[u8; 256],
     choices: u32,
     left: u32,
 ) -> Turn
     requires { ⌜ n ≤ 256 ⌝ }
-    ensures { λ r. ⌜ r ≡ turnOf conflict (lowest (view it .cell) n) (lacksOne n (trueAtoms n (valued (now (candidate .entry)))) (trueAtoms n (view it .cell))) (ltb choices left) ⌝ }
+    ensures { λ r. ⌜ r ≡ turnOf conflict (lowest (valued (now (values .entry))) n) (lacksOne n (trueAtoms n (valued (now (candidate .entry)))) (trueAtoms n (valued (now (values .entry))))) (ltb choices left) ⌝ }
 {
     if conflict {
         return Turn::Back;
     }
-    let c = it.lowest_undefined(n);
+    let c = lowest_undefined(values, n);
     match c {
         Choice::Atom(p) => {
             if choices < left {
@@ -225,7 +279,7 @@ pub fn decide(
             Turn::Limit
         }
         Choice::Nothing => {
-            if lacks_one(candidate, &it.values, n) {
+            if lacks_one(candidate, values, n) {
                 return Turn::Smaller;
             }
             Turn::Back
@@ -239,25 +293,27 @@ pub fn look(t: &[i32], tb: Table, places: &[u16], candidate: &[u8; 256], left: u
     ensures { λ r. ⌜ testedOf r ≡ smallerTest (map (ruleAt (now (t .entry))) (now (places .entry))) (tb .atoms) left (trueAtoms (tb .atoms) (valued (now (candidate .entry)))) ⌝ }
 {
     let n = tb.atoms;
-    let mut it = start(candidate, n);
+    let mut values = [0u8; 256];
+    let mut levels = [0u16; 256];
+    let mut chosen = [0u16; 256];
+    let mut depth: u16 = 0;
     let mut choices: u32 = 0;
+    start(candidate, n, &mut values, &mut levels);
     loop {
-        let made = propagate(t, tb, places, candidate, it);
-        let now = made.it;
-        it = now;
-        let turn = decide(candidate, n, made.conflict, it, choices, left);
+        let made = propagate(t, tb, places, candidate, depth, &mut values, &mut levels);
+        let turn = decide(candidate, n, made.conflict, &values, choices, left);
         match turn {
             Turn::Smaller => return Tested::Failed(choices),
             Turn::Limit => return Tested::Exhausted,
             Turn::Choose(p) => {
-                it = opened(it, p);
+                depth = opened(p, depth, &mut values, &mut levels, &mut chosen);
                 choices += 1;
             }
             Turn::Back => {
-                if it.depth == 0 {
+                if depth == 0 {
                     return Tested::Passed(choices);
                 }
-                it = flipped(it);
+                depth = flipped(depth, &chosen, &mut values, &mut levels);
             }
         }
     }
@@ -269,23 +325,25 @@ pub fn has_smaller(t: &[i32], tb: Table, places: &[u16], candidate: &[u8; 256]) 
     ensures { λ r. ⌜ r ≡ hasSmaller (map (ruleAt (now (t .entry))) (now (places .entry))) (tb .atoms) (trueAtoms (tb .atoms) (valued (now (candidate .entry)))) ⌝ }
 {
     let n = tb.atoms;
-    let mut it = start(candidate, n);
+    let mut values = [0u8; 256];
+    let mut levels = [0u16; 256];
+    let mut chosen = [0u16; 256];
+    let mut depth: u16 = 0;
+    start(candidate, n, &mut values, &mut levels);
     loop {
-        let made = propagate(t, tb, places, candidate, it);
-        let now = made.it;
-        it = now;
-        let turn = decide(candidate, n, made.conflict, it, 0, 1); // one more choice is always allowed
+        let made = propagate(t, tb, places, candidate, depth, &mut values, &mut levels);
+        let turn = decide(candidate, n, made.conflict, &values, 0, 1); // one more choice is always allowed
         match turn {
             Turn::Smaller => return true,
             Turn::Limit => return false,
             Turn::Choose(p) => {
-                it = opened(it, p);
+                depth = opened(p, depth, &mut values, &mut levels, &mut chosen);
             }
             Turn::Back => {
-                if it.depth == 0 {
+                if depth == 0 {
                     return false;
                 }
-                it = flipped(it);
+                depth = flipped(depth, &chosen, &mut values, &mut levels);
             }
         }
     }

@@ -8,10 +8,9 @@ use Prim.Native.Nat.{ℕ}
 use lib.Dec.{ltb}
 use Rattle.meaning.specs.Aggregates.{Atoms}
 use Rattle.interpretation.specs.State.{lowest, trueAtoms}
-use Rattle.interpretation.specs.View.{cells, valued, found}
+use Rattle.interpretation.specs.View.{valued, found}
 use Rattle.smaller.specs.Smaller.{lacksOne}
 use Rattle.second_search.specs.Looking.{turnOf}
-use Rattle.second_search.proofs.Lacking.{trues-alone}
 use Rattle.second_search.proofs.decide.Statement.{statement}
 use Rattle.second_search.proofs.decide.Tie as tie
 
@@ -21,26 +20,23 @@ returns c = search needs
 -- ---- no conflict
 
 abbrev lacks : tie.Start → Bool
-lacks s = let a = s .args in lacksOne (a .n) (trueAtoms (a .n) (valued (a .candidate .now))) (trueAtoms (a .n) (cells (a .t4 .values) (a .t4 .records)))
+lacks s = let a = s .args in lacksOne (a .n) (trueAtoms (a .n) (valued (a .candidate .now))) (trueAtoms (a .n) (valued (a .values .now)))
 
 abbrev more : tie.Start → Bool
 more s = ltb (s .args .choices) (s .args .left)
 
 -- by the lowest undefined atom
 by : (l : tie.After-lowest-undefined) (o : Option ℕ) → found (l .lowest-undefined .result) ≡ o
-    → let s = l .before .before in let a = s .args in turnOf (a .conflict) (lowest (cells (a .t4 .values) (a .t4 .records)) (a .n)) (lacks s) (more s) ≡ turnOf false o (lacks s) (more s)
+    → let s = l .before .before in let a = s .args in turnOf (a .conflict) (lowest (valued (a .values .now)) (a .n)) (lacks s) (more s) ≡ turnOf false o (lacks s) (more s)
 by l o e =
     let s = l .before .before in
     let a = s .args in
-    ap (λ (b : Bool). turnOf b (lowest (cells (a .t4 .values) (a .t4 .records)) (a .n)) (lacks s) (more s)) (l .before .if1 .left)
+    ap (λ (b : Bool). turnOf b (lowest (valued (a .values .now)) (a .n)) (lacks s) (more s)) (l .before .if1 .left)
     ∙ ap (λ (x : Option ℕ). turnOf false x (lacks s) (more s)) (sym (l .lowest-undefined .ensures) ∙ e)
 
--- the test reads the values alone
-told : (c : tie.After-lacks-one) → let s = c .before .before .before .before .before .before .before in lacks s ≡ c .lacks-one .result
-told c =
-    let s = c .before .before .before .before .before .before .before in
-    let a = s .args in
-    ap (lacksOne (a .n) (trueAtoms (a .n) (valued (a .candidate .now)))) (trues-alone (a .n) (a .t4 .values) (a .t4 .records)) ∙ sym (c .lacks-one .ensures)
+-- what the test says
+told : (c : tie.After-lacks-one) → lacks (c .before .before .before .before .before) ≡ c .lacks-one .result
+told c = sym (c .lacks-one .ensures)
 
 lowest-undefined-requires : tie.Need-lowest-undefined-requires
 lowest-undefined-requires c κs = search needs
@@ -63,7 +59,7 @@ lacks-one-requires c κs = search needs
 
 returns-3 : tie.Need-returns-3
 returns-3 c =
-    let e = c .before .before .before .before in
+    let e = c .before .before in
     let l = e .before .before in
     let s = l .before .before in
     sym (by l none (ap found (e .enum-told .given .1)) ∙ ap (λ (b : Bool). turnOf false none b (more s)) (told (c .before) ∙ c .if3 .taken))
@@ -77,7 +73,7 @@ returns-4 c =
 
 returns-5 : tie.Need-returns-5
 returns-5 c =
-    let e = c .before .before .before .before in
+    let e = c .before .before in
     let l = e .before .before in
     let s = l .before .before in
     sym (by l none (ap found (e .enum-told .given .1)) ∙ ap (λ (b : Bool). turnOf false none b (more s)) (told (c .before) ∙ c .if3 .left))

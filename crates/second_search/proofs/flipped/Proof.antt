@@ -1,71 +1,58 @@
--- `second_search::flipped` meets its contract: a jump to the present level makes its choice atom false, and its value is turned. Assumes nothing.
+-- `second_search::flipped` meets its contract: what was set at the present level is undone, and then its choice atom set. Assumes nothing.
 use borrow.Author.Needs.{needs}
-use Prim.Native.Nat.{ℕ, suc, _-_, _≤_, _<_}
+use Prim.Native.Nat.{ℕ, _-_, _≤_}
 use native.Mathlib.Omega.{arith}
-use mathlib.Core.Path.{_≡_, refl, sym, ap, _∙_}
-use mathlib.Core.Bool.{true, false}
-use lib.ListN.{length, getD}
-use Rattle.interpretation.specs.State.{Cell, Interpretation, defined, put, undone}
-use Rattle.interpretation.specs.View.{view, cells}
+use mathlib.Core.Path.{_≡_, sym, ap, _∙_}
+use mathlib.Core.Bool.{true}
+use lib.ListN.{getD}
+use Rattle.interpretation.specs.State.{Cell, defined, put}
+use Rattle.interpretation.specs.View.{choices}
 use Rattle.interpretation.proofs.Laws.{choices-at}
-use Rattle.second_search.proofs.Turned.{value-turned}
+use Rattle.second_search.proofs.Arrays.{flips}
 use Rattle.second_search.proofs.flipped.Statement.{statement}
 use Rattle.second_search.proofs.flipped.Tie as tie
+
+-- the choice atom of the present level
+choice : (s : tie.Start) → let a = s .args in choices (a .chosen .now) (a .depth) (a .depth) ≡ getD (a .chosen .now) (a .depth - 1) 0
+choice s = choices-at (s .args .chosen .now) (s .args .depth) (s .args .depth) (s .pre .0) (omega arith)
+
+sub-level : tie.Need-sub-level
+sub-level c = search needs
 
 cast-k : tie.Need-cast-k
 cast-k c = search needs
 
-sub-k : tie.Need-sub-k
-sub-k c = search needs
-
 mul-p : tie.Need-mul-p
-mul-p c = search needs
+mul-p c = let h = c .pre .1 in omega arith
 
 element-copy-out-p : tie.Need-element-copy-out-p
-element-copy-out-p c = search needs
+element-copy-out-p c = let l = c .pre .0 in let h = c .pre .1 in omega arith
 
 cast-p : tie.Need-cast-p
-cast-p c = search needs
+cast-p c = let e = choice (c .before) in let h = c .before .pre .3 in omega arith
 
-jump-requires : tie.Need-jump-requires
-jump-requires c κs = search needs
+undo-requires : tie.Need-undo-requires
+undo-requires c κs = c .before .before .before .pre .4
 
--- the choice atom of the present level
-choice : (s : tie.Start) → let it = s .args .t1 in
-    (view it .choice (it .depth) ≡ getD (it .chosen) (it .depth - 1) 0) × (1 ≤ getD (it .chosen) (it .depth - 1) 0) × (getD (it .chosen) (it .depth - 1) 0 ≤ 256)
-choice s =
-    let it = s .args .t1 in
-    let e = choices-at (it .chosen) (it .depth) (it .depth) (s .pre .0) (omega arith) in
+set-requires : tie.Need-set-requires
+set-requires c κs =
+    let u = c .before .before in
+    let s = u .before .before .before .before in
+    let e = choice s in
     let l = s .pre .2 in
     let h = s .pre .3 in
-    (e, omega arith, omega arith)
-
-sub-i : tie.Need-sub-i
-sub-i c = let h = choice (c .before .before) in let h1 = h .1 in omega arith
-
-element-write-next : tie.Need-element-write-next
-element-write-next c = let h = choice (c .before .before) in let h1 = h .1 in let h2 = h .2 in omega arith
+    (omega arith, omega arith, u .undo .ensures .0)
 
 returns : tie.Need-returns
 returns c =
-    let s = c .before .before in
-    let it = s .args .t1 in
-    let n = c .jump .result in
-    let e = c .jump .ensures in
-    let j = it .depth - 1 in
-    let p = getD (it .chosen) j 0 in
-    let k : length (n .values) ≡ 256 = search needs in
-    let h = choice s in
-    let l = h .1 in
-    let g = h .2 in
-    let d = s .pre .0 in
-    let m : suc j ≡ it .depth = omega arith in
-    let q : suc (p - 1) ≡ p = omega arith in
-    let x : view it .choice (suc j) ≡ suc (p - 1) = ap (view it .choice) m ∙ h .0 ∙ sym q in
-    let old : ℕ → Cell = λ r. undone (suc j) (cells (it .values) (it .records) r) in
-    let z : cells (n .values) (n .records) ≡ put (suc (p - 1)) (defined false j) old = ap (λ (i : Interpretation). i .cell) e ∙ ap (λ (r : ℕ). put r (defined false j) old) x in
-    let y = value-turned (n .values) (n .records) (p - 1) (omega arith) false true j old z ∙ ap (λ (r : ℕ). put r (defined true j) old) (sym x) in
-    λ t. record { level = e t .level; choice = e t .choice; cell = y t }
+    let u = c .before .before .before in
+    let s = u .before .before .before .before in
+    let a = s .args in
+    let p = getD (a .chosen .now) (a .depth - 1) 0 in (
+      c .set .ensures .0,
+      flips (a .values .now) (a .levels .now) (c .set .last .1 .1 .1 .0) (c .set .last .1 .1 .1 .1 .0) (a .chosen .now) (a .depth) p (s .pre .0) (sym (choice s))
+          (c .set .ensures .1 ∙ ap (λ (f : ℕ → Cell). put p (defined true (a .depth - 1)) f) (u .undo .ensures .1)),
+    )
 
 pub flipped-spec : {M : Type 1} → statement M
-flipped-spec = tie.close (tie.spec cast-k sub-k mul-p element-copy-out-p cast-p jump-requires sub-i element-write-next returns)
+flipped-spec = tie.close (tie.spec sub-level cast-k mul-p element-copy-out-p cast-p undo-requires set-requires returns)

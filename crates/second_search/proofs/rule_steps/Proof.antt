@@ -1,44 +1,42 @@
--- `second_search::rule_steps` meets its contract. The invariant of its loop: what the reduct's rules from the i-th place on make of the interpretation at hand is what all of them
--- make of the first one, up to reasons. The measure is the number of rules to come. Assumes nothing.
+-- `second_search::rule_steps` meets its contract. The invariant of its loop: what the reduct's rules from the i-th place on make of the arrays at hand is what all of them
+-- make of the first ones, up to reasons. The measure is the number of rules to come. Assumes nothing.
 use borrow.Author.Needs.{needs}
 use Prim.Native.Nat.{ℕ, _+_, _-_, _≤_}
 use native.Mathlib.Omega.{arith}
 use mathlib.Core.Path.{_≡_, sym, _∙_}
 use mathlib.Core.Logic.{⊎-elim}
 use mathlib.Core.Bool.{Bool, true, false}
-use mathlib.Core.List.{map}
+use mathlib.Core.List.{List, map}
 use lib.ListN.{length, getD, drop}
 use Rattle.meaning.specs.Aggregates.{Atoms}
 use Rattle.meaning.specs.Answers.{body, reduct}
-use Rattle.interpretation.specs.State.{trueAtoms, setAt}
-use Rattle.interpretation.specs.View.{view, valued}
-use Rattle.interpretation.specs.declared.Interpretation as code
+use Rattle.interpretation.specs.State.{trueAtoms}
+use Rattle.interpretation.specs.View.{valued}
 use Rattle.layout.specs.Layout.{ruleAt, RuleLies}
 use Rattle.layout.proofs.Inside.{rule-in}
-use Rattle.steps.specs.Steps.{rulePass, pass, begin}
-use Rattle.search.specs.Engine.{noReasons}
+use Rattle.steps.specs.Steps.{rulePass, pass}
 use Rattle.rules.specs.declared.Step.{Step}
 use Rattle.rules.specs.declared.Step.the-variants.{Nothing, Conflict, Set}
 use Rattle.rules.specs.Demand.{demandOf}
 use Rattle.rules.proofs.Rule.{demand-open}
-use Rattle.second_search.specs.Looking.{Like, Kept, Made}
+use Rattle.second_search.specs.Looking.{Like, cellsAt, workOf, Whole}
 use Rattle.second_search.proofs.Liking.{like-refl}
 use Rattle.second_search.proofs.Sets.{asked-set}
-use Rattle.second_search.proofs.Walking.{stateOf, kept-refl, kept-set, rules-nothing, rules-refuted, rules-set, rules-over}
+use Rattle.second_search.proofs.Walking.{rules-nothing, rules-refuted, rules-set, rules-over}
 use Rattle.second_search.proofs.rule_steps.Statement.{statement}
 use Rattle.second_search.proofs.rule_steps.Tie as tie
 
 abbrev Inv-loop : tie.InvT-loop
-Inv-loop t tb places candidate it₀ changed₀ i₀ it changed i =
-    Like (rulePass (reduct (map (ruleAt t) (drop i places)) (trueAtoms (tb .atoms) (valued candidate))) (stateOf it changed))
-    (pass (reduct (map (ruleAt t) places) (trueAtoms (tb .atoms) (valued candidate))) 0 (begin (view it₀) noReasons))
-    × Kept it₀ it
+Inv-loop t tb places candidate level values₀ levels₀ changed₀ i₀ values levels changed i =
+    Whole values levels
+    × Like (rulePass (reduct (map (ruleAt t) (drop i places)) (trueAtoms (tb .atoms) (valued candidate))) (workOf level (cellsAt values levels) changed false))
+    (pass (reduct (map (ruleAt t) places) (trueAtoms (tb .atoms) (valued candidate))) 0 (workOf level (cellsAt values₀ levels₀) false false))
 
 abbrev μ-loop : tie.MeasureT-loop
-μ-loop t tb places candidate it₀ changed₀ i₀ it changed i = length places - i
+μ-loop t tb places candidate level values₀ levels₀ changed₀ i₀ values levels changed i = length places - i
 
 loop-holds : tie.Need-loop-holds Inv-loop μ-loop
-loop-holds c = (like-refl _, kept-refl _)
+loop-holds c = (c .before .pre .3, like-refl _)
 
 -- ---- the rule at hand
 
@@ -58,7 +56,7 @@ lies c = start (c .before) .pre .1 (c .before .loop .i) (c .loop-test .taken)
 
 -- after a rule is asked: the turn of the loop
 abbrev turnOf : tie.After-asked Inv-loop μ-loop → tie.In-loop Inv-loop μ-loop
-turnOf d = d .before .before .before .before
+turnOf d = d .before .before .before
 
 mul-at : tie.Need-mul-at Inv-loop μ-loop
 mul-at c = search needs
@@ -70,7 +68,7 @@ cast-at : tie.Need-cast-at Inv-loop μ-loop
 cast-at c = let i = c .before in omega (arith, lies i .heads .fits, start (i .before) .pre .0 .short)
 
 asked-requires : tie.Need-asked-requires Inv-loop μ-loop
-asked-requires c κs = let i = c .before .before .before in let s = start (i .before) in (s .pre .0, lies i, s .pre .2)
+asked-requires c κs = let i = c .before .before in let s = start (i .before) in (s .pre .0, lies i, s .pre .2)
 
 enum-told : tie.Need-enum-told Inv-loop μ-loop
 enum-told c = search needs
@@ -83,11 +81,10 @@ returns c =
     let d = c .before .before in
     let i = turnOf d in
     let b = i .before in
-    let a = start b .args in
-    record {
-      like = rules-refuted (X b) (a .t .now) (a .places .now) (b .loop .i) (b .loop .it) (b .loop .changed) _ (b .loop .inv .0) (i .loop-test .taken) (sym (d .asked .ensures) ∙ c .enum-told2 .given .1);
-      kept = b .loop .inv .1;
-    }
+    let a = start b .args in (
+      b .loop .inv .0,
+      rules-refuted (X b) (a .t .now) (a .places .now) (b .loop .i) (a .level) (b .loop .values) (b .loop .levels) (b .loop .changed) _ (b .loop .inv .1) (i .loop-test .taken) (sym (d .asked .ensures) ∙ c .enum-told2 .given .1),
+    )
 
 enum-known-step : tie.Need-enum-known-step Inv-loop μ-loop
 enum-known-step c = search needs
@@ -100,32 +97,32 @@ aim c =
     let b = i .before in
     let a = start b .args in
     let L = start b .pre .0 in
-    let h = asked-set (a .tb .atoms) (valued (b .loop .it .values)) (ruleAt (a .t .now) (place b)) (body (X b) (ruleAt (a .t .now) (place b))) (c .step .given .0 .0) (c .step .given .0 .1 .0)
+    let h = asked-set (a .tb .atoms) (valued (b .loop .values)) (ruleAt (a .t .now) (place b)) (body (X b) (ruleAt (a .t .now) (place b))) (c .step .given .0 .0) (c .step .given .0 .1 .0)
     (rule-in (a .t .now) (a .tb) L (place b) (lies i)) (sym (d .asked .ensures) ∙ c .step .given .1) .1 in
     (h .0, omega (arith, h .1, L .fewAtoms))
 
 set-requires : tie.Need-set-requires Inv-loop μ-loop
-set-requires c κs = aim (c .before)
+set-requires c κs = let t = c .before .before .before in let h = aim t in (h .0, h .1, turnOf (t .before .before) .before .loop .inv .0)
 
--- ---- what the rule makes of the interpretation
+-- ---- what the rule makes of the arrays
 
-abbrev Came : tie.After-asked Inv-loop μ-loop → code.Interpretation → Bool → Type 0
-Came d it changed =
+abbrev Came : tie.After-asked Inv-loop μ-loop → List ℕ → List ℕ → Bool → Type 0
+Came d values levels changed =
     let b = turnOf d .before in
     let a = start b .args in
-    Like (rulePass (reduct (map (ruleAt (a .t .now)) (drop (b .loop .i + 1) (a .places .now))) (X b)) (stateOf it changed))
-    (pass (reduct (map (ruleAt (a .t .now)) (a .places .now)) (X b)) 0 (begin (view (a .t5)) noReasons))
-    × Kept (a .t5) it
+    Whole values levels
+    × Like (rulePass (reduct (map (ruleAt (a .t .now)) (drop (b .loop .i + 1) (a .places .now))) (X b)) (workOf (a .level) (cellsAt values levels) changed false))
+    (pass (reduct (map (ruleAt (a .t .now)) (a .places .now)) (X b)) 0 (workOf (a .level) (cellsAt (a .values .now) (a .levels .now)) false false))
 
-came : (c : tie.At-match-came Inv-loop μ-loop) → Came (c .before) (c .match .it) (c .match .changed)
+came : (c : tie.At-match-came Inv-loop μ-loop) → Came (c .before) (c .match .values) (c .match .levels) (c .match .changed)
 came c =
     let d = c .before in
     let i = turnOf d in
     let b = i .before in
     let a = start b .args in
     ⊎-elim
-    (λ w. rw (w .2, w .3) (rules-nothing (X b) (a .t .now) (a .places .now) (b .loop .i) (b .loop .it) (b .loop .changed) _ (b .loop .inv .0) (i .loop-test .taken) (sym (d .asked .ensures) ∙ w .1 .given .1), b .loop .inv .1))
-    (λ w. rw (w .4, w .5) (rules-set (X b) (a .t .now) (a .places .now) (b .loop .i) (b .loop .it) (b .loop .changed) _ (b .loop .inv .0) (i .loop-test .taken) (w .1 .given .0 .0) (w .1 .given .0 .1 .0) (sym (d .asked .ensures) ∙ w .1 .given .1) (w .3 .result) (w .3 .ensures), kept-set (a .t5) (b .loop .it) (w .3 .result) (w .1 .given .0 .0) (w .1 .given .0 .1 .0) (b .loop .inv .1) (w .3 .ensures)))
+    (λ w. rw (w .2, w .3, w .4) (b .loop .inv .0, rules-nothing (X b) (a .t .now) (a .places .now) (b .loop .i) (a .level) (b .loop .values) (b .loop .levels) (b .loop .changed) _ (b .loop .inv .1) (i .loop-test .taken) (sym (d .asked .ensures) ∙ w .1 .given .1)))
+    (λ w. rw (w .6, w .7, w .8) (w .5 .ensures .0, rules-set (X b) (a .t .now) (a .places .now) (b .loop .i) (a .level) (b .loop .values) (b .loop .levels) (b .loop .changed) _ (b .loop .inv .1) (i .loop-test .taken) (w .1 .given .0 .0) (w .1 .given .0 .1 .0) (sym (d .asked .ensures) ∙ w .1 .given .1) _ (w .5 .ensures .1)))
     (c .match .came)
 
 add-i : tie.Need-add-i Inv-loop μ-loop
@@ -141,7 +138,7 @@ returns-2 : tie.Need-returns-2 Inv-loop μ-loop
 returns-2 c =
     let b = c .before in
     let a = start b .args in
-    record { like = rules-over (X b) (a .t .now) (a .places .now) (b .loop .i) (b .loop .it) (b .loop .changed) _ (b .loop .inv .0) (c .loop-test .left); kept = b .loop .inv .1 }
+    (b .loop .inv .0, rules-over (X b) (a .t .now) (a .places .now) (b .loop .i) (a .level) (b .loop .values) (b .loop .levels) (b .loop .changed) _ (b .loop .inv .1) (c .loop-test .left))
 
 pub rule-steps-spec : {M : Type 1} → statement M
 rule-steps-spec = tie.close (tie.spec Inv-loop μ-loop loop-holds mul-at shared-slice-read-at cast-at asked-requires enum-told enum-told-2 returns enum-known-step set-requires add-i loop-less loop-again returns-2)
