@@ -60,7 +60,7 @@ fn choose(
     if side.conflict {
         return Solved::Nothing(counted(choices));
     }
-    let lowest = turns::lowest_undefined(&side.values, tb.atoms);
+    let lowest = second_search::lowest_undefined(&side.values, tb.atoms);
     if let Choice::Atom(p) = lowest {
         if limit <= choices {
             return Solved::Limit(counted(choices));

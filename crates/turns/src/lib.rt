@@ -5,7 +5,7 @@ ghost use Prim.Native.Nat.{_-_, _≤_, max};
 ghost use lib.Dec.{ltb};
 ghost use Rattle.levels.specs.View.{row};
 ghost use Rattle.interpretation.specs.State.{lowest, trueAtoms, AllDefined};
-ghost use Rattle.interpretation.specs.View.{choices, found, valued};
+ghost use Rattle.interpretation.specs.View.{choices, valued};
 ghost use Rattle.layout.specs.Layout.{Laid};
 ghost use Rattle.heads.specs.Heads.{Listed, taking};
 ghost use Rattle.smaller.specs.Cyclic.{testBy};
@@ -37,23 +37,6 @@ pub fn greater(a: u32, b: u32) -> u32
     ensures { λ r. ⌜ r ≡ max a b ⌝ }
 {
     if a < b { b } else { a }
-}
-
-// The lowest undefined atom of 1 to n.
-pub fn lowest_undefined(values: &[u8; 256], n: usize) -> Choice
-    requires { ⌜ n ≤ 256 ⌝ }
-    ensures { λ r. ⌜ found r ≡ lowest (valued (now (values .entry))) n ⌝ }
-{
-    let mut i: usize = 0;
-    while i < n {
-        let value = values[i];
-        if value == 0 {
-            let p = i + 1;
-            return Choice::Atom(p);
-        }
-        i += 1;
-    }
-    Choice::Nothing
 }
 
 // The final test of a total interpretation, with so many choices left: foundedness, which spends none; or, where the call takes head cycles, the second search over the rules of list 0. Constraints add no atom: for foundedness all rules are as good.
@@ -98,7 +81,7 @@ pub fn decide(
         Outcome::Conflict => Turn::Conflict(0),
         Outcome::Settled => {
             let n = tb.atoms;
-            let c = lowest_undefined(values, n);
+            let c = second_search::lowest_undefined(values, n);
             match c {
                 Choice::Atom(p) => {
                     if choices < limit {
