@@ -4,20 +4,21 @@
 ghost use mathlib.Core.Path.{_≡_};
 ghost use mathlib.Core.Bool.{Bool, true, false};
 ghost use mathlib.Core.List.{map};
-ghost use Prim.Native.Nat.{_≤_, _<_, _-_, suc};
+ghost use Prim.Native.Nat.{_≤_, suc};
 ghost use lib.Dec.{ltb};
 ghost use Rattle.meaning.specs.Answers.{body, reduct};
-ghost use lib.ListN.{length};
-ghost use Rattle.interpretation.specs.State.{AllDefined, trueAtoms, lowest, undefined, defined, put, undone};
-ghost use Rattle.interpretation.specs.View.{valued, choices, found};
+ghost use Rattle.interpretation.specs.State.{AllDefined, trueAtoms, lowest};
+ghost use Rattle.interpretation.specs.View.{valued, found};
 ghost use Rattle.layout.specs.Layout.{Laid, RuleLies, ruleAt};
 ghost use Rattle.heads.specs.Heads.{AllLie};
 ghost use Rattle.steps.specs.Steps.{pass, passes};
-ghost use Rattle.search.specs.Search.{openedAs, jumpedAs};
 ghost use Rattle.rules.specs.Demand.{demandOf};
 ghost use Rattle.smaller.specs.Smaller.{lacksOne, smallerTest};
 ghost use Rattle.smaller.specs.Cyclic.{hasSmaller};
-ghost use Rattle.second_search.specs.Looking.{Like, workOf, cellsAt, viewOf, Whole, askedOf, startCells, turnOf, testedOf};
+ghost use Rattle.second_search.specs.Looking.{Like, workOf, cellsAt, Whole, askedOf, turnOf, testedOf};
+
+pub mod held;
+
 use interpretation::Choice;
 use layout::Table;
 use rules::Step;
@@ -68,33 +69,6 @@ pub fn asked(t: &[i32], tb: Table, at: usize, candidate: &[u8; 256], values: &[u
     Step::Nothing
 }
 
-// Atom p gets a value at a level.
-pub fn set(p: usize, v: bool, level: u16, values: &mut [u8; 256], levels: &mut [u16; 256])
-    requires { ⌜ (1 ≤ p) × (p ≤ 256) × Whole (now values) (now levels) ⌝ }
-    ensures { λ _. ⌜ Whole (now (values .exit)) (now (levels .exit))
-        × (cellsAt (now (values .exit)) (now (levels .exit)) ≡ put p (defined v level) (cellsAt (now (values .entry)) (now (levels .entry)))) ⌝ }
-{
-    let i = p - 1;
-    values[i] = interpretation::byte(v);
-    levels[i] = level;
-}
-
-// All that was set at level m or later is undone.
-pub fn undo(m: u16, values: &mut [u8; 256], levels: &mut [u16; 256])
-    requires { ⌜ Whole (now values) (now levels) ⌝ }
-    ensures { λ _. ⌜ Whole (now (values .exit)) (now (levels .exit))
-        × (cellsAt (now (values .exit)) (now (levels .exit)) ≡ (λ q. undone m (cellsAt (now (values .entry)) (now (levels .entry)) q))) ⌝ }
-{
-    let mut i: usize = 256;
-    while 0 < i {
-        i -= 1;
-        if m <= levels[i] {
-            values[i] = 0;
-            levels[i] = 0;
-        }
-    }
-}
-
 // A pass: steps a to c at the reduct's rules, in the order of the places.
 pub fn rule_steps(
     t: &[i32],
@@ -123,7 +97,7 @@ pub fn rule_steps(
                 };
             }
             Step::Set(p, v) => {
-                set(p, v, level, values, levels);
+                held::set(p, v, level, values, levels);
                 changed = true;
             }
         }
@@ -168,21 +142,6 @@ pub fn propagate(
     }
 }
 
-// What holds at the start, set where all was undefined: the candidate's true atoms stay so, all other atoms are false.
-pub fn start(candidate: &[u8; 256], n: usize, values: &mut [u8; 256], levels: &mut [u16; 256])
-    requires { ⌜ (n ≤ 256) × Whole (now values) (now levels) × (cellsAt (now values) (now levels) ≡ (λ p. undefined)) ⌝ }
-    ensures { λ _. ⌜ Whole (now (values .exit)) (now (levels .exit)) × (cellsAt (now (values .exit)) (now (levels .exit)) ≡ startCells n (trueAtoms n (valued (now (candidate .entry))))) ⌝ }
-{
-    let mut i: usize = 0;
-    while i < n {
-        let p = i + 1;
-        if !foundation::is_true(candidate, p) {
-            set(p, false, 0, values, levels);
-        }
-        i += 1;
-    }
-}
-
 // Whether the values keep all of the candidate's true atoms, or lack one.
 pub fn lacks_one(candidate: &[u8; 256], values: &[u8; 256], n: usize) -> bool
     requires { ⌜ n ≤ 256 ⌝ }
@@ -215,44 +174,6 @@ pub fn lowest_undefined(values: &[u8; 256], n: usize) -> Choice
         i += 1;
     }
     Choice::Nothing
-}
-
-// One more level, with atom p false as its choice. The result is the new level.
-pub fn opened(
-    p: usize,
-    depth: u16,
-    values: &mut [u8; 256],
-    levels: &mut [u16; 256],
-    chosen: &mut [u16; 256],
-) -> u16
-    requires { ⌜ (1 ≤ p) × (p ≤ 256) × (depth < 256) × Whole (now values) (now levels) × (length (now chosen) ≡ 256) ⌝ }
-    ensures { λ r. ⌜ Whole (now (values .exit)) (now (levels .exit)) × (length (now (chosen .exit)) ≡ 256)
-        × (viewOf (now (values .exit)) (now (levels .exit)) (now (chosen .exit)) r ≡ openedAs false p (viewOf (now (values .entry)) (now (levels .entry)) (now (chosen .entry)) depth)) ⌝ }
-{
-    let k = depth as usize;
-    let level = depth + 1;
-    chosen[k] = p as u16;
-    set(p, false, level, values, levels);
-    level
-}
-
-// All that was set at the present level is undone, and its choice atom becomes true, one level less present. The result is the level that is left.
-pub fn flipped(
-    depth: u16,
-    chosen: &[u16; 256],
-    values: &mut [u8; 256],
-    levels: &mut [u16; 256],
-) -> u16
-    requires { ⌜ (1 ≤ depth) × (depth ≤ 256) × (1 ≤ choices (now chosen) depth depth) × (choices (now chosen) depth depth ≤ 256) × Whole (now values) (now levels) ⌝ }
-    ensures { λ r. ⌜ Whole (now (values .exit)) (now (levels .exit))
-        × (viewOf (now (values .exit)) (now (levels .exit)) (now (chosen .entry)) r ≡ jumpedAs true (depth - 1) (viewOf (now (values .entry)) (now (levels .entry)) (now (chosen .entry)) depth)) ⌝ }
-{
-    let level = depth - 1;
-    let k = level as usize;
-    let p = chosen[k] as usize;
-    undo(depth, values, levels);
-    set(p, true, level, values, levels);
-    level
 }
 
 // What is to be done after a propagation. "keeping all atoms not counting as smaller": then it goes back as after a conflict.
@@ -298,7 +219,7 @@ pub fn look(t: &[i32], tb: Table, places: &[u16], candidate: &[u8; 256], left: u
     let mut chosen = [0u16; 256];
     let mut depth: u16 = 0;
     let mut choices: u32 = 0;
-    start(candidate, n, &mut values, &mut levels);
+    held::start(candidate, n, &mut values, &mut levels);
     loop {
         let made = propagate(t, tb, places, candidate, depth, &mut values, &mut levels);
         let turn = decide(candidate, n, made.conflict, &values, choices, left);
@@ -306,14 +227,14 @@ pub fn look(t: &[i32], tb: Table, places: &[u16], candidate: &[u8; 256], left: u
             Turn::Smaller => return Tested::Failed(choices),
             Turn::Limit => return Tested::Exhausted,
             Turn::Choose(p) => {
-                depth = opened(p, depth, &mut values, &mut levels, &mut chosen);
+                depth = held::opened(p, depth, &mut values, &mut levels, &mut chosen);
                 choices += 1;
             }
             Turn::Back => {
                 if depth == 0 {
                     return Tested::Passed(choices);
                 }
-                depth = flipped(depth, &chosen, &mut values, &mut levels);
+                depth = held::flipped(depth, &chosen, &mut values, &mut levels);
             }
         }
     }
@@ -329,7 +250,7 @@ pub fn has_smaller(t: &[i32], tb: Table, places: &[u16], candidate: &[u8; 256]) 
     let mut levels = [0u16; 256];
     let mut chosen = [0u16; 256];
     let mut depth: u16 = 0;
-    start(candidate, n, &mut values, &mut levels);
+    held::start(candidate, n, &mut values, &mut levels);
     loop {
         let made = propagate(t, tb, places, candidate, depth, &mut values, &mut levels);
         let turn = decide(candidate, n, made.conflict, &values, 0, 1); // one more choice is always allowed
@@ -337,13 +258,13 @@ pub fn has_smaller(t: &[i32], tb: Table, places: &[u16], candidate: &[u8; 256]) 
             Turn::Smaller => return true,
             Turn::Limit => return false,
             Turn::Choose(p) => {
-                depth = opened(p, depth, &mut values, &mut levels, &mut chosen);
+                depth = held::opened(p, depth, &mut values, &mut levels, &mut chosen);
             }
             Turn::Back => {
                 if depth == 0 {
                     return false;
                 }
-                depth = flipped(depth, &chosen, &mut values, &mut levels);
+                depth = held::flipped(depth, &chosen, &mut values, &mut levels);
             }
         }
     }

@@ -1,10 +1,10 @@
--- `second_search::opened` meets its contract. Assumes nothing.
+-- `second_search::held::opened` meets its contract. Assumes nothing.
 use borrow.Author.Needs.{needs}
 use lib.ListN.{length-set}
 use mathlib.Core.Path.{_∙_}
 use Rattle.second_search.proofs.Arrays.{opens}
-use Rattle.second_search.proofs.opened.Statement.{statement}
-use Rattle.second_search.proofs.opened.Tie as tie
+use Rattle.second_search.proofs.held.opened.Statement.{statement}
+use Rattle.second_search.proofs.held.opened.Tie as tie
 
 add-level : tie.Need-add-level
 add-level c = search needs

@@ -1,4 +1,4 @@
--- `second_search::start` meets its contract. The invariant of its loop: the atoms 1 .. i stand as at the start. The measure is the number of atoms to come.
+-- `second_search::held::start` meets its contract. The invariant of its loop: the atoms 1 .. i stand as at the start. The measure is the number of atoms to come.
 -- Assumes nothing.
 use borrow.Author.Needs.{needs}
 use borrow.Author.Tests.{not-true, not-false}
@@ -14,8 +14,8 @@ use Rattle.interpretation.specs.View.{valued}
 use Rattle.foundation.proofs.Decided.{true-at}
 use Rattle.second_search.specs.Looking.{cellsAt, Whole, startCells}
 use Rattle.second_search.proofs.Starting.{start-none, start-out, start-in}
-use Rattle.second_search.proofs.start.Statement.{statement}
-use Rattle.second_search.proofs.start.Tie as tie
+use Rattle.second_search.proofs.held.start.Statement.{statement}
+use Rattle.second_search.proofs.held.start.Tie as tie
 
 abbrev Inv-loop : tie.InvT-loop
 Inv-loop candidate n values₀ levels₀ i₀ values levels i = (i ≤ n) × Whole values levels × (cellsAt values levels ≡ startCells i (trueAtoms n (valued candidate)))

@@ -1,4 +1,4 @@
--- `second_search::undo` meets its contract. The invariant of its loop: the cells above index i are undone, the others as they were. Assumes nothing.
+-- `second_search::held::undo` meets its contract. The invariant of its loop: the cells above index i are undone, the others as they were. Assumes nothing.
 use borrow.Author.Needs.{needs}
 use Prim.Native.Nat.{ℕ, suc, _-_, _≤_}
 use native.Mathlib.Omega.{arith}
@@ -8,8 +8,8 @@ use Rattle.interpretation.specs.State.{Cell}
 use Rattle.interpretation.proofs.Laws.{partly, partly-start, partly-end}
 use Rattle.second_search.specs.Looking.{recordAt, cellsAt, Whole}
 use Rattle.second_search.proofs.Arrays.{whole-set, undo-at, keep-at}
-use Rattle.second_search.proofs.undo.Statement.{statement}
-use Rattle.second_search.proofs.undo.Tie as tie
+use Rattle.second_search.proofs.held.undo.Statement.{statement}
+use Rattle.second_search.proofs.held.undo.Tie as tie
 
 abbrev Inv-loop : tie.InvT-loop
 Inv-loop m values₀ levels₀ i₀ values levels i = (i ≤ 256) × Whole values levels × (cellsAt values levels ≡ partly m i (cellsAt values₀ levels₀))

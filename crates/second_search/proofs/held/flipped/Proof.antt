@@ -1,4 +1,4 @@
--- `second_search::flipped` meets its contract: what was set at the present level is undone, and then its choice atom set. Assumes nothing.
+-- `second_search::held::flipped` meets its contract: what was set at the present level is undone, and then its choice atom set. Assumes nothing.
 use borrow.Author.Needs.{needs}
 use Prim.Native.Nat.{ℕ, _-_, _≤_}
 use native.Mathlib.Omega.{arith}
@@ -9,8 +9,8 @@ use Rattle.interpretation.specs.State.{Cell, defined, put}
 use Rattle.interpretation.specs.View.{choices}
 use Rattle.interpretation.proofs.Laws.{choices-at}
 use Rattle.second_search.proofs.Arrays.{flips}
-use Rattle.second_search.proofs.flipped.Statement.{statement}
-use Rattle.second_search.proofs.flipped.Tie as tie
+use Rattle.second_search.proofs.held.flipped.Statement.{statement}
+use Rattle.second_search.proofs.held.flipped.Tie as tie
 
 -- the choice atom of the present level
 choice : (s : tie.Start) → let a = s .args in choices (a .chosen .now) (a .depth) (a .depth) ≡ getD (a .chosen .now) (a .depth - 1) 0

@@ -1,9 +1,9 @@
--- `second_search::set` meets its contract. Assumes nothing.
+-- `second_search::held::set` meets its contract. Assumes nothing.
 use borrow.Author.Needs.{needs}
 use Prim.Native.Nat.{ℕ, _-_}
 use Rattle.second_search.proofs.Arrays.{whole-set, cells-put}
-use Rattle.second_search.proofs.set.Statement.{statement}
-use Rattle.second_search.proofs.set.Tie as tie
+use Rattle.second_search.proofs.held.set.Statement.{statement}
+use Rattle.second_search.proofs.held.set.Tie as tie
 
 sub-i : tie.Need-sub-i
 sub-i c = search needs
