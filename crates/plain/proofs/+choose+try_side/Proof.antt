@@ -28,7 +28,7 @@ choose-returns : (t : ℕ) → choose-lts.Need-returns (choose-calls t) (choose-
 choose-returns t c =
     let b = c .before .before .before in
     let a = b .args in
-    conflict-side (a .cycles) (a .t .now) (a .tb) (a .limit) (a .t6) (c .before .if1 .taken) (b .pre .1 .few) (a .plan .now) (c .counted .result) (c .counted .ensures)
+    conflict-side (a .ask .cycles) (a .t .now) (a .tb) (a .ask .limit) (a .t5) (c .before .if1 .taken) (b .pre .1 .few) (a .plan .now) (c .counted .result) (c .counted .ensures)
 
 choose-lowest-undefined-requires : (t : ℕ) → choose-lts.Need-lowest-undefined-requires (choose-calls t) (choose-at t) choose.Post
 choose-lowest-undefined-requires t c κs = c .before .before .before .before .pre .1 .laid .fewAtoms
@@ -41,25 +41,25 @@ choose-counted-requires-2 t c κs = search needs
 
 choose-returns-2 : (t : ℕ) → choose-lts.Need-returns-2 (choose-calls t) (choose-at t) choose.Post
 choose-returns-2 t c =
-    let k = c .before .before .before in
+    let k = c .before .before .before .before in
     let i = k .before .before .before .before .before in
     let b = i .before .before in
     let a = b .args in
-    at-limit (a .cycles) (a .t .now) (a .tb) (a .limit) (a .t6) (i .if1 .left) (k .lowest .given .0 .0) (chosen-atom t k) (c .before .if2 .taken) (b .pre .1 .few) (a .plan .now) (c .counted2 .result) (c .counted2 .ensures)
+    at-limit (a .ask .cycles) (a .t .now) (a .tb) (a .ask .limit) (a .t5) (i .if1 .left) (k .lowest .given .0 .0) (chosen-atom t k) (c .before .if2 .taken) (b .pre .1 .few) (a .plan .now) (c .counted2 .result) (c .counted2 .ensures)
 
 choose-add-on : (t : ℕ) → choose-lts.Need-add-on (choose-calls t) (choose-at t) choose.Post
 choose-add-on t c =
     let h = c .if2 .left in
-    let f = c .before .before .before .before .before .before .before .before .before .fits .limit in
+    let f = c .before .struct-known .given .1 .0 in
     omega (arith, h, f)
 
 choose-on-requires : (t : ℕ) → choose-lts.Need-on-requires (choose-calls t) (choose-at t) choose.Post
-choose-on-requires t c κs = aim t (c .before .before)
+choose-on-requires t c κs = aim t (c .before .before .before)
 
 choose-try-side-requires : (t : ℕ) → choose-lts.Need-try-side-requires (choose-calls t) (choose-at t) choose.Post
 choose-try-side-requires t c κs =
     let w = c .before in
-    let k = w .before .before .before in
+    let k = w .before .before .before .before in
     let i = k .before .before .before .before .before in
     let b = i .before .before in
     let a = b .args in
@@ -67,11 +67,11 @@ choose-try-side-requires t c κs =
     let e = b .pre .0 in
     let h = w .before .if2 .left in
     let n = w .on .ensures .1 in
-    let f = fewer (a .cycles) (a .t .now) (a .tb) (a .limit) (a .t6) (i .if1 .left) (k .lowest .given .0 .0) (chosen-atom t k) true (w .on .result) (w .on .ensures .0) in (
+    let f = fewer (a .ask .cycles) (a .t .now) (a .tb) (a .ask .limit) (a .t5) (i .if1 .left) (k .lowest .given .0 .0) (chosen-atom t k) true (w .on .result) (w .on .ensures .0) in (
       omega (arith, e, f),
       (
         record { laid = R .laid; whole = R .whole; few = omega (arith, h, n); room = R .room },
-        calm-still (a .cycles) (a .t .now) (a .tb) (a .limit) (a .t6) (i .if1 .left) (k .lowest .given .0 .0) (chosen-atom t k) true (w .on .result) (w .on .ensures .0),
+        calm-still (a .ask .cycles) (a .t .now) (a .tb) (a .ask .limit) (a .t5) (i .if1 .left) (k .lowest .given .0 .0) (chosen-atom t k) true (w .on .result) (w .on .ensures .0),
       ),
     )
 
@@ -85,14 +85,14 @@ choose-returns-3 : (t : ℕ) → choose-lts.Need-returns-3 (choose-calls t) (cho
 choose-returns-3 t c =
     let y = c .before .before .before in
     let x = y .before .before in
-    let k = x .before .before .before in
+    let k = x .before .before .before .before in
     let i = k .before .before .before .before .before in
     let a = i .before .before .args in
-    first-ends (a .cycles) (a .t .now) (a .tb) (a .limit) (a .t6) (i .if1 .left) (k .lowest .given .0 .0) (chosen-atom t k) (x .before .if2 .left) (x .on .result) (x .on .ensures .0) (x .on .ensures .1)
+    first-ends (a .ask .cycles) (a .t .now) (a .tb) (a .ask .limit) (a .t5) (i .if1 .left) (k .lowest .given .0 .0) (chosen-atom t k) (x .before .if2 .left) (x .on .result) (x .on .ensures .0) (x .on .ensures .1)
     (a .plan .now) _ (y .try-side .result) (y .try-side .ensures) (holds-some (y .try-side .result) (c .match2 .keys2))
 
 choose-on-requires-2 : (t : ℕ) → choose-lts.Need-on-requires-2 (choose-calls t) (choose-at t) choose.Post
-choose-on-requires-2 t c κs = aim t (c .before .before .before .before .before .before .before .before .before .before)
+choose-on-requires-2 t c κs = aim t (c .before .before .before .before .before .before .before .before .before .before .before)
 
 choose-try-side-requires-2 : (t : ℕ) → choose-lts.Need-try-side-requires-2 (choose-calls t) (choose-at t) choose.Post
 choose-try-side-requires-2 t c κs =
@@ -101,22 +101,22 @@ choose-try-side-requires-2 t c κs =
     let g = d .before .first .given in
     let y = d .before .before .before .before .before in
     let x = y .before .before in
-    let k = x .before .before .before in
+    let k = x .before .before .before .before in
     let i = k .before .before .before .before .before in
     let b = i .before .before in
     let a = b .args in
     let R = b .pre .1 in
     let e = b .pre .0 in
     let n = w .on2 .ensures .1 in
-    let f = fewer (a .cycles) (a .t .now) (a .tb) (a .limit) (a .t6) (i .if1 .left) (k .lowest .given .0 .0) (chosen-atom t k) false (w .on2 .result) (w .on2 .ensures .0) in
-    let q = few-first (a .cycles) (a .t .now) (a .tb) (a .limit) (a .t6) (i .if1 .left) (k .lowest .given .0 .0) (chosen-atom t k) (x .before .if2 .left) (x .on .result) (x .on .ensures .0) (x .on .ensures .1)
+    let f = fewer (a .ask .cycles) (a .t .now) (a .tb) (a .ask .limit) (a .t5) (i .if1 .left) (k .lowest .given .0 .0) (chosen-atom t k) false (w .on2 .result) (w .on2 .ensures .0) in
+    let q = few-first (a .ask .cycles) (a .t .now) (a .tb) (a .ask .limit) (a .t5) (i .if1 .left) (k .lowest .given .0 .0) (chosen-atom t k) (x .before .if2 .left) (x .on .result) (x .on .ensures .0) (x .on .ensures .1)
     (a .plan .now) _ (y .try-side .result) (y .try-side .ensures) (g .0 .0) (g .1) in
-    let m = as-was (a .cycles) (a .t .now) (a .tb) (a .limit) (a .t6) (i .if1 .left) (k .lowest .given .0 .0) (chosen-atom t k) (x .before .if2 .left) (x .on .result) (x .on .ensures .0) (x .on .ensures .1)
+    let m = as-was (a .ask .cycles) (a .t .now) (a .tb) (a .ask .limit) (a .t5) (i .if1 .left) (k .lowest .given .0 .0) (chosen-atom t k) (x .before .if2 .left) (x .on .result) (x .on .ensures .0) (x .on .ensures .1)
     (a .plan .now) _ (y .try-side .result) (y .try-side .ensures) (g .0 .0) (g .1) in (
       omega (arith, e, f),
       (
         record { laid = R .laid; whole = R .whole; few = omega (arith, n, q); room = subst (λ (l : List ℕ). a .tb .atoms ≤ length l) (sym m) (R .room) },
-        calm-still (a .cycles) (a .t .now) (a .tb) (a .limit) (a .t6) (i .if1 .left) (k .lowest .given .0 .0) (chosen-atom t k) false (w .on2 .result) (w .on2 .ensures .0),
+        calm-still (a .ask .cycles) (a .t .now) (a .tb) (a .ask .limit) (a .t5) (i .if1 .left) (k .lowest .given .0 .0) (chosen-atom t k) false (w .on2 .result) (w .on2 .ensures .0),
       ),
     )
 
@@ -131,10 +131,10 @@ choose-returns-4 t c =
     let g = d .before .first .given in
     let y = d .before .before .before .before .before in
     let x = y .before .before in
-    let k = x .before .before .before in
+    let k = x .before .before .before .before in
     let i = k .before .before .before .before .before in
     let a = i .before .before .args in
-    other-side (a .cycles) (a .t .now) (a .tb) (a .limit) (a .t6) (i .if1 .left) (k .lowest .given .0 .0) (chosen-atom t k) (x .before .if2 .left) (x .on .result) (x .on .ensures .0) (x .on .ensures .1)
+    other-side (a .ask .cycles) (a .t .now) (a .tb) (a .ask .limit) (a .t5) (i .if1 .left) (k .lowest .given .0 .0) (chosen-atom t k) (x .before .if2 .left) (x .on .result) (x .on .ensures .0) (x .on .ensures .1)
     (a .plan .now) _ (y .try-side .result) (y .try-side .ensures) (g .0 .0) (g .1) (w .on2 .result) (w .on2 .ensures .0) (w .on2 .ensures .1) _ (s .try-side2 .result) (s .try-side2 .ensures)
 
 choose-enum-told : (t : ℕ) → choose-lts.Need-enum-told (choose-calls t) (choose-at t) choose.Post
@@ -142,7 +142,7 @@ choose-enum-told t c = search needs
 
 choose-tested-requires : (t : ℕ) → choose-lts.Need-tested-requires (choose-calls t) (choose-at t) choose.Post
 choose-tested-requires t c κs =
-    let e = c .before .before .before in
+    let e = c .before in
     let R = e .before .before .before .before .before .before .before .pre .1 in
     record { laid = R .laid; whole = R .whole; defined = lowest-none _ _ (none-left t e); few = R .few; room = R .room }
 
@@ -152,11 +152,11 @@ choose-same-length-3 t c = search needs
 choose-returns-5 : (t : ℕ) → choose-lts.Need-returns-5 (choose-calls t) (choose-at t) choose.Post
 choose-returns-5 t c =
     let x = c .before .before in
-    let e = x .before .before .before .before in
+    let e = x .before .before in
     let i = e .before .before .before .before .before in
     let b = i .before .before in
     let a = b .args in
-    tested-all (a .cycles) (a .t .now) (a .tb) (a .limit) (a .t6) (i .if1 .left) (none-left t e) (a .plan .now) _ (x .tested .result) (x .tested .ensures)
+    tested-all (a .ask .cycles) (a .t .now) (a .tb) (a .ask .limit) (a .t5) (i .if1 .left) (none-left t e) (a .plan .now) _ (x .tested .result) (x .tested .ensures)
 
 -- ---- `try_side`
 
@@ -172,7 +172,7 @@ try-side-choose-requires t c κs =
     let e = b .pre .0 in
     let n = d .propagate .ensures .kept in
     let l = R .0 .few in
-    let h = no-more (a .cycles) (a .t .now) (a .tb) (a .limit) (a .side) (d .propagate .result) (R .1) (d .propagate .ensures) (atoms-in (a .t .now) (a .tb) (R .0 .laid)) in
+    let h = no-more (a .ask .cycles) (a .t .now) (a .tb) (a .ask .limit) (a .side) (d .propagate .result) (R .1) (d .propagate .ensures) (atoms-in (a .t .now) (a .tb) (R .0 .laid)) in
     (omega (arith, e, h), record { laid = R .0 .laid; whole = R .0 .whole; few = omega (arith, n, l); room = R .0 .room })
 
 try-side-same-length : (t : ℕ) → try-side-lts.Need-same-length (try-side-calls t) (try-side-at t) try-side.Post
@@ -185,7 +185,7 @@ try-side-returns t c =
     let b = d .before .before in
     let a = b .args in
     let R = b .pre .1 in
-    tried (a .cycles) (a .t .now) (a .tb) (a .limit) (a .side) (d .propagate .result) (R .1) (d .propagate .ensures) (atoms-in (a .t .now) (a .tb) (R .0 .laid)) (a .plan .now) _ (x .choose .result) (x .choose .ensures)
+    tried (a .ask .cycles) (a .t .now) (a .tb) (a .ask .limit) (a .side) (d .propagate .result) (R .1) (d .propagate .ensures) (atoms-in (a .t .now) (a .tb) (R .0 .laid)) (a .plan .now) _ (x .choose .result) (x .choose .ensures)
 
 pub +choose+try-side-spec : {M : Type 1} → statement M
 +choose+try-side-spec =

@@ -34,10 +34,10 @@ use Rattle.plain.proofs.tested.Reads as tested-reads
 use Rattle.turns.proofs.lowest_undefined.Reads as lowest-undefined-reads
 
 abbrev pub μ-choose : Measures 3 choose-kinds.ps ℕ
-μ-choose κs a = 2 * undefinedTo (a .1 .0 .atoms) (valued (a .1 .1 .1 .1 .1 .0 .values))
+μ-choose κs a = 2 * undefinedTo (a .1 .0 .atoms) (valued (a .1 .1 .1 .1 .0 .values))
 
 abbrev pub μ-try-side : Measures 3 try-side-kinds.ps ℕ
-μ-try-side κs a = 2 * undefinedTo (a .1 .0 .atoms) (valued (a .1 .1 .1 .1 .1 .0 .values)) + 1
+μ-try-side κs a = 2 * undefinedTo (a .1 .0 .atoms) (valued (a .1 .1 .1 .1 .0 .values)) + 1
 
 abbrev pub choose-at : ℕ → In 3 choose-kinds.ps
 choose-at t = and 3 choose-kinds.ps (is 3 choose-kinds.ps μ-choose t) choose.Pre
@@ -73,18 +73,18 @@ try-side-calls t = (propagate-reads.Asked, propagate-reads.Learnt, choose-below 
 
 -- no atom is undefined
 pub none-left : (t : ℕ) (c : choose-lts.After-enum-told (choose-calls t) (choose-at t) choose.Post)
-    → let a = c .before .before .before .before .before .before .before .args in lowest (valued (a .t6 .values)) (a .tb .atoms) ≡ none
+    → let a = c .before .before .before .before .before .before .before .args in lowest (valued (a .t5 .values)) (a .tb .atoms) ≡ none
 none-left t c = sym (c .before .before .lowest-undefined .ensures) ∙ ap found (c .enum-told .given .1)
 
 -- the atom that is chosen
 pub chosen-atom : (t : ℕ) (c : choose-lts.After-lowest (choose-calls t) (choose-at t) choose.Post)
-    → let a = c .before .before .before .before .before .before .before .args in lowest (valued (a .t6 .values)) (a .tb .atoms) ≡ some (c .lowest .given .0 .0)
+    → let a = c .before .before .before .before .before .before .before .args in lowest (valued (a .t5 .values)) (a .tb .atoms) ≡ some (c .lowest .given .0 .0)
 chosen-atom t c = sym (c .before .before .lowest-undefined .ensures) ∙ ap found (c .lowest .given .1)
 
 pub aim : (t : ℕ) (c : choose-lts.After-lowest (choose-calls t) (choose-at t) choose.Post) → (1 ≤ c .lowest .given .0 .0) × (c .lowest .given .0 .0 ≤ 256)
 aim t c =
     let b = c .before .before .before .before .before .before .before in
-    let h = lowest-some (valued (b .args .t6 .values)) (b .args .tb .atoms) (c .lowest .given .0 .0) (chosen-atom t c) in
+    let h = lowest-some (valued (b .args .t5 .values)) (b .args .tb .atoms) (c .lowest .given .0 .0) (chosen-atom t c) in
     (h .0, omega (arith, h .1, b .pre .1 .laid .fewAtoms))
 
 -- a first side that is not told to hold nothing
