@@ -6,7 +6,7 @@
 // Then each round walks the rules in their order. An atom that has a round is not marked again, so its rule is the lowest of that round; and a round looks only at
 // marks of earlier rounds, so what it adds itself is not seen by it. The walks read the rounds through a lent array, and an array of structs cannot be lent: so the
 // marks are two arrays of numbers, and go into the records when the last round is done. Meaning: crate `rounds`; how the rules are walked: `specs/Walk.antt`; how the
-// records are read: `specs/Kept.antt`. Memory: a word of 32 bits for each rule (1,024 at most), two of 16 bits for each atom (256 at most).
+// records are read: `specs/Kept.antt`. Memory: a word of 32 bits for each rule (1,024 at most), lent by the caller; two of 16 bits for each atom (256 at most).
 ghost use mathlib.Core.Path.{_≡_};
 ghost use mathlib.Core.Bool.{false};
 ghost use Prim.Native.Nat.{_≤_};
@@ -21,6 +21,7 @@ ghost use Rattle.rounds.specs.Marks.{earlier, marksAfter};
 ghost use Rattle.explaining.specs.Walk.{roundsBy, view, codeBy, codesFrom, due, walkCodes, FitCode, FitCodes};
 ghost use Rattle.explaining.specs.Kept.{keptIn, Kept};
 use foundation::Adds;
+use foundation::Candidates;
 use interpretation::Interpretation;
 use interpretation::Record;
 use layout::Table;
@@ -139,13 +140,12 @@ pub fn walk(t: &[i32], list: &[u32], number: usize, round: u16, mut marks: Marks
     Walked { marks, any }
 }
 
-// The rounds 1 to N, up to the first that adds nothing.
-pub fn mark(t: &[i32], tb: Table, values: &[u8; 256]) -> Marks
+// The rounds 1 to N, up to the first that adds nothing. What the list held before does not matter.
+pub fn mark(t: &[i32], tb: Table, values: &[u8; 256], list: &mut Candidates) -> Marks
     requires { ⌜ Laid (now t) tb × AllDefined (tb .atoms) (valued (now values)) ⌝ }
     ensures { λ r. ⌜ view r ≡ marksAfter (programOf (now (t .entry)) tb) (trueAtoms (tb .atoms) (valued (now (values .entry)))) (tb .atoms) ⌝ }
 {
-    let mut list = [0u32; 1024];
-    collect(t, tb, values, &mut list);
+    collect(t, tb, values, list);
     let mut marks = Marks {
         rounds: [0u16; 256],
         rules: [0u16; 256],
@@ -153,7 +153,7 @@ pub fn mark(t: &[i32], tb: Table, values: &[u8; 256]) -> Marks
     let mut round: u16 = 0;
     while (round as usize) < tb.atoms {
         round += 1;
-        let w = walk(t, &list, tb.rules, round, marks);
+        let w = walk(t, list, tb.rules, round, marks);
         let next = w.marks;
         marks = next;
         if !w.any {
@@ -187,12 +187,17 @@ pub fn whys_of(it: Interpretation) -> [Why; 256]
 }
 
 // An answer with the round and the rule of each atom in its record: those of the definition for the true atoms, and 0 and 0 for all others. Nothing else of the
-// interpretation changes.
-pub fn explain(t: &[i32], tb: Table, mut it: Interpretation) -> Interpretation
+// interpretation changes. What the list held before does not matter.
+pub fn explain(
+    t: &[i32],
+    tb: Table,
+    mut it: Interpretation,
+    list: &mut Candidates,
+) -> Interpretation
     requires { ⌜ Laid (now t) tb × AllDefined (tb .atoms) (valued (it .values)) ⌝ }
     ensures { λ r. ⌜ Kept it r (whyOf (programOf (now (t .entry)) tb) (tb .atoms) (trueAtoms (tb .atoms) (valued (it .values)))) ⌝ }
 {
-    let marks = mark(t, tb, &it.values);
+    let marks = mark(t, tb, &it.values, list);
     let mut i: usize = 0;
     while i < 256 {
         let level = it.records[i].level;

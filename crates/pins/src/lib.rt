@@ -159,7 +159,7 @@ fn plan_in(
             let found = setting::search(words, tb, cycles, lists, s, limit, candidates);
             let atoms = tb.atoms;
             let solved = solver::plans::report(found, atoms, plan);
-            let whys = solver::whys_by(words, tb, cycles, solved, found.it);
+            let whys = solver::whys_by(words, tb, cycles, solved, found.it, candidates);
             Solution { solved, whys }
         }
     }

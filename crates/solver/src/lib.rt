@@ -66,7 +66,7 @@ pub fn solve_with(
             let found = jumping::search(words, tb, cycles, lists, limit, candidates);
             let atoms = tb.atoms;
             let solved = plans::report(found, atoms, plan);
-            let whys = whys_by(words, tb, cycles, solved, found.it);
+            let whys = whys_by(words, tb, cycles, solved, found.it, candidates);
             Solution { solved, whys }
         }
     }
@@ -94,15 +94,22 @@ fn is_answer(solved: Solved) -> bool
     }
 }
 
-// Why each atom is in the answer that the search ended with: its records are filled, and read. Without an answer no atom has a round or a rule.
-pub fn whys_for(words: &[i32], tb: Table, solved: Solved, it: Interpretation) -> [Why; 256]
+// Why each atom is in the answer that the search ended with: its records are filled, and read. Without an answer no atom has a round or a rule. The
+// candidates of the search are free by then, and are lent again.
+pub fn whys_for(
+    words: &[i32],
+    tb: Table,
+    solved: Solved,
+    it: Interpretation,
+    candidates: &mut Candidates,
+) -> [Why; 256]
     requires { ⌜ Laid (now words) tb × (isAnswer solved ≡ true → AllDefined (tb .atoms) (view it .cell)) ⌝ }
     ensures { λ r. ⌜ Recorded r (whysFor solved (whyOf (programOf (now (words .entry)) tb) (tb .atoms) (trueAtoms (tb .atoms) (view it .cell)))) ⌝ }
 {
     if !is_answer(solved) {
         return explaining::nothing();
     }
-    let answer = explaining::explain(words, tb, it);
+    let answer = explaining::explain(words, tb, it, candidates);
     explaining::whys_of(answer)
 }
 
@@ -113,6 +120,7 @@ pub fn whys_by(
     cycles: bool,
     solved: Solved,
     it: Interpretation,
+    candidates: &mut Candidates,
 ) -> [Why; 256]
     requires { ⌜ Laid (now words) tb × (isAnswer solved ≡ true → AllDefined (tb .atoms) (view it .cell)) ⌝ }
     ensures { λ r. ⌜ Recorded r (whysBy cycles solved (whyOf (programOf (now (words .entry)) tb) (tb .atoms) (trueAtoms (tb .atoms) (view it .cell)))) ⌝ }
@@ -120,7 +128,7 @@ pub fn whys_by(
     if cycles {
         return explaining::nothing();
     }
-    whys_for(words, tb, solved, it)
+    whys_for(words, tb, solved, it, candidates)
 }
 
 // Whether an offered plan is an answer set of the table, or a refusal; with or without head cycles. It never writes to the plan. Its memory is lent, as that of

@@ -22,21 +22,21 @@ abbrev Held : List ℕ → List ℕ → List Record → ℕ → Type 0
 Held rs ns records i = Below (whyAt rs ns) (λ (j : ℕ). whyIn (getD records j blank)) i
 
 abbrev Inv-loop : tie.InvT-loop
-Inv-loop t it₀ marks i₀ it i =
+Inv-loop t list it₀ marks i₀ it i =
     (i ≤ 256) × (length (it .records) ≡ 256) × (view it ≡ view it₀) × Held (marks .rounds) (marks .rules) (it .records) i × (length (marks .rounds) ≡ 256) × (length (marks .rules) ≡ 256)
 
 abbrev μ-loop : tie.MeasureT-loop
-μ-loop t it₀ marks i₀ it i = 256 - i
+μ-loop t list it₀ marks i₀ it i = 256 - i
 
 mark-requires : tie.Need-mark-requires Inv-loop μ-loop
-mark-requires c κs = c .before .before .pre
+mark-requires c κs = c .before .before .before .pre
 
 loop-holds : tie.Need-loop-holds Inv-loop μ-loop
 loop-holds c =
     let m = c .mark .result in
     let x : length (m .rounds) ≡ 256 = search needs in
     let y : length (m .rules) ≡ 256 = search needs in
-    (omega arith, unmapped (c .before .before .before .args .t3 .records) 256 (search needs), refl, λ j h. absurd (omega arith), x, y)
+    (omega arith, unmapped (c .before .before .before .before .args .t3 .records) 256 (search needs), refl, λ j h. absurd (omega arith), x, y)
 
 mul-level : tie.Need-mul-level Inv-loop μ-loop
 mul-level c = omega arith
@@ -56,8 +56,8 @@ mul-rule c = search needs
 element-copy-out-rule : tie.Need-element-copy-out-rule Inv-loop μ-loop
 element-copy-out-rule c = omega arith
 
-mul-t13 : tie.Need-mul-t13 Inv-loop μ-loop
-mul-t13 c = omega arith
+mul-t15 : tie.Need-mul-t15 Inv-loop μ-loop
+mul-t15 c = omega arith
 
 element-set-from-it : tie.Need-element-set-from-it Inv-loop μ-loop
 element-set-from-it c = omega arith
@@ -89,7 +89,7 @@ returns : tie.Need-returns Inv-loop μ-loop
 returns c =
     let b = c .before in
     let k = b .before in
-    let s = k .before .before .before in
+    let s = k .before .before .before .before in
     let n = s .args .tb .atoms in
     let m = k .mark .result in
     let rs = b .loop .it .records in
@@ -114,7 +114,7 @@ explain-spec =
     element-copy-out-round
     mul-rule
     element-copy-out-rule
-    mul-t13
+    mul-t15
     element-set-from-it
     add-i
     loop-less

@@ -1,7 +1,7 @@
 -- `explaining::mark` meets its contract. The invariant of its loop: the marks are those of the rounds so far. A round that adds nothing is the last one.
 -- The measure is the number of rounds to come. Assumes nothing.
 use borrow.Author.Needs.{needs}
-use mathlib.Core.Path.{_≡_, refl, sym, ap, subst, _∙_}
+use mathlib.Core.Path.{_≡_, sym, ap, subst, _∙_}
 use mathlib.Core.Bool.{Bool, false}
 use mathlib.Core.List.{List}
 use Prim.Native.Nat.{ℕ, suc, _+_, _-_, _≤_, _<_}
@@ -31,11 +31,8 @@ Inv-loop t tb values list marks₀ round₀ marks round =
 abbrev μ-loop : tie.MeasureT-loop
 μ-loop t tb values list marks₀ round₀ marks round = tb .atoms - round
 
-slice-aggregate-collect : tie.Need-slice-aggregate-collect Inv-loop μ-loop
-slice-aggregate-collect c = search needs
-
 collect-requires : tie.Need-collect-requires Inv-loop μ-loop
-collect-requires c κs = (c .before .pre .0, refl)
+collect-requires c κs = (c .before .pre .0, search needs)
 
 loop-holds : tie.Need-loop-holds Inv-loop μ-loop
 loop-holds c = (omega arith, whys-none 256 256 ∙ sym (after-none _ _))
@@ -43,7 +40,7 @@ loop-holds c = (omega arith, whys-none 256 256 ∙ sym (after-none _ _))
 -- ---- where the loop stands
 
 abbrev start : tie.At-loop Inv-loop μ-loop → tie.Start Inv-loop μ-loop
-start b = b .before .before .before .before
+start b = b .before .before .before
 
 abbrev table : tie.At-loop Inv-loop μ-loop → List ℤ
 table b = start b .args .t .now
@@ -59,12 +56,12 @@ true-atoms b = trueAtoms (start b .args .tb .atoms) (cell b)
 
 -- the words of the rules
 abbrev words : tie.At-loop Inv-loop μ-loop → List ℕ
-words b = b .before .before .collect .last .1 .1 .1 .0
+words b = b .before .collect .last .1 .1 .1 .0
 
 collected : (b : tie.At-loop Inv-loop μ-loop)
     → let tb = start b .args .tb in
     Stands (codesFrom (cell b) (table b) (tb .first) (tb .rules)) (words b) (tb .rules)
-collected b = b .before .before .collect .ensures
+collected b = b .before .collect .ensures
 
 cast-if1 : tie.Need-cast-if1 Inv-loop μ-loop
 cast-if1 c = search needs
@@ -74,12 +71,9 @@ add-round c =
     let b = c .before .before in
     omega (arith, c .if1 .taken, start b .pre .0 .fewAtoms)
 
-slice-aggregate-walk : tie.Need-slice-aggregate-walk Inv-loop μ-loop
-slice-aggregate-walk c = search needs
-
 walk-requires : tie.Need-walk-requires Inv-loop μ-loop
 walk-requires c κs =
-    let b = c .before .before .before in
+    let b = c .before .before .before .before in
     let tb = start b .args .tb in
     let laid = start b .pre .0 in
     let e = collected b in (
@@ -90,9 +84,9 @@ walk-requires c κs =
 
 -- ---- a round
 
-walked : (w : tie.After-walk Inv-loop μ-loop) → let b = w .before .before .before .before in view (w .walk .result .marks) ≡ marksAfter (program b) (true-atoms b) (suc (b .loop .round))
+walked : (w : tie.After-walk Inv-loop μ-loop) → let b = w .before .before .before .before .before in view (w .walk .result .marks) ≡ marksAfter (program b) (true-atoms b) (suc (b .loop .round))
 walked w =
-    let b = w .before .before .before .before in
+    let b = w .before .before .before .before .before in
     let tb = start b .args .tb in
     w .walk .ensures .0
     ∙ ap (λ (r : ℕ). walkCodes (table b) r 1 (take (tb .rules) (words b)) (view (b .loop .marks))) (add-one (b .loop .round))
@@ -103,7 +97,7 @@ walked w =
 returns : tie.Need-returns Inv-loop μ-loop
 returns c =
     let w = c .before .before .before in
-    let b = w .before .before .before .before in
+    let b = w .before .before .before .before .before in
     let same = w .walk .ensures .1 (not-is _ (c .if2 .taken)) in
     walked w
     ∙ quiet-ends (table b) (start b .args .tb) (start b .pre .0) (cell b) (start b .pre .1) (b .loop .round) (start b .args .tb .atoms) (b .loop .inv .0) (sym (walked w) ∙ same ∙ b .loop .inv .1)
@@ -111,14 +105,14 @@ returns c =
 loop-less : tie.Need-loop-less Inv-loop μ-loop
 loop-less c =
     let w = c .before .before .before in
-    let h = w .before .before .if1 .taken in
+    let h = w .before .before .before .if1 .taken in
     omega arith
 
 loop-again : tie.Need-loop-again Inv-loop μ-loop
 loop-again c =
     let w = c .before .before .before in
-    let b = w .before .before .before .before in
-    (omega (arith, w .before .before .if1 .taken), walked w ∙ ap (marksAfter (program b) (true-atoms b)) (sym (add-one (b .loop .round))))
+    let b = w .before .before .before .before .before in
+    (omega (arith, w .before .before .before .if1 .taken), walked w ∙ ap (marksAfter (program b) (true-atoms b)) (sym (add-one (b .loop .round))))
 
 -- ---- the end
 
@@ -134,12 +128,10 @@ mark-spec =
     (tie.spec
     Inv-loop
     μ-loop
-    slice-aggregate-collect
     collect-requires
     loop-holds
     cast-if1
     add-round
-    slice-aggregate-walk
     walk-requires
     returns
     loop-less

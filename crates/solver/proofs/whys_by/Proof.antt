@@ -26,7 +26,9 @@ whys-for-requires : tie.Need-whys-for-requires
 whys-for-requires c κs = search needs
 
 returns-2 : tie.Need-returns-2
-returns-2 c = subst (Recorded (c .whys-for .result)) (ap (by (c .before .before)) (sym (c .before .if1 .left))) (c .whys-for .ensures)
+returns-2 c =
+    let e = c .before .before in
+    subst (Recorded (c .whys-for .result)) (ap (by (e .before)) (sym (e .if1 .left))) (c .whys-for .ensures)
 
 pub whys-by-spec : {M : Type 1} → statement M
 whys-by-spec = tie.close (tie.spec nothing-requires returns whys-for-requires returns-2)

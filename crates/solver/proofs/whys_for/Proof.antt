@@ -27,9 +27,10 @@ answered c = sym (c .before .is-answer .ensures) ∙ not-false _ (c .if1 .left)
 
 explain-requires : tie.Need-explain-requires
 explain-requires c κs =
-    let s = c .before .before in
+    let e = c .before in
+    let s = e .before .before in
     let a = s .args in
-    (s .pre .0, whole-alone (a .tb .atoms) (a .it .values) (a .it .records) (s .pre .1 (answered c)))
+    (s .pre .0, whole-alone (a .tb .atoms) (a .it .values) (a .it .records) (s .pre .1 (answered e)))
 
 whys-of-requires : tie.Need-whys-of-requires
 whys-of-requires c κs = search needs
@@ -47,7 +48,7 @@ returns c =
 returns-2 : tie.Need-returns-2
 returns-2 c =
     let x = c .before in
-    let e = x .before in
+    let e = x .before .before in
     let s = e .before .before in
     let a = s .args in
     let n = a .tb .atoms in
