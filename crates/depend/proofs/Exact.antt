@@ -206,13 +206,9 @@ accepted-table cycles t tb h e =
     let w = (not-refused cycles (tb .atoms) (programOf t tb) A) .0 e in
     (A, w .0, w .1)
 
--- ---- for the code: where head cycles are taken, only 9 is left
+-- ---- for the code: where head cycles are taken, no rule is refused for one
 
-nowhere : (k : ℕ) (P : Program) → lowest (λ (r : Rule). false) k P ≡ Nowhere
+pub nowhere : (k : ℕ) (P : Program) → lowest (λ (r : Rule). false) k P ≡ Nowhere
 unfolding lowest
 nowhere k [] = refl
 nowhere k (r ∷ P) = nowhere (suc k) P
-
-pub only-ninth : (n : ℕ) (P : Program) → cycleBy true n P ≡ ninth (lowest (aggregateCycle (suc n) P) 1 P)
-unfolding cycleBy
-only-ninth n P = ap (λ (p : Place). eighth p (ninth (lowest (aggregateCycle (suc n) P) 1 P))) (nowhere 1 P)

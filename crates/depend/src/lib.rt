@@ -8,7 +8,7 @@ ghost use Prim.Native.Nat.{suc};
 ghost use Rattle.meaning.specs.Cycles.{headCycle, aggregateCycle};
 ghost use Rattle.layout.specs.Layout.{programOf, Laid};
 ghost use Rattle.heads.specs.Heads.{Listed};
-ghost use Rattle.depend.specs.Cycles.{lowest, ninth, cycleBy};
+ghost use Rattle.depend.specs.Cycles.{lowest, ninth, headCycleBy, cycleBy};
 use heads::Lists;
 use layout::Table;
 use reach::settling;
@@ -35,17 +35,25 @@ pub fn refusal(t: &[i32], tb: Table, cycles: bool, lists: &Lists) -> Cycle
     requires { ⌜ Laid (now t) tb × Listed (now t) tb (now lists) ⌝ }
     ensures { λ r. ⌜ r ≡ cycleBy cycles (tb .atoms) (programOf (now (t .entry)) tb) ⌝ }
 {
-    if cycles {
-        return ninth(t, tb, lists);
-    }
-    let head = lowest_head(t, tb, lists);
+    let head = lowest_eighth(t, tb, cycles, lists);
     match head {
         Place::At(rule) => Cycle::Refused(Refusal::HeadCycle(rule)),
         Place::Nowhere => ninth(t, tb, lists),
     }
 }
 
-// Refusal 9 at its lowest rule, or nothing.
+// The lowest rule that 8 is given for: none where head cycles are taken.
+fn lowest_eighth(t: &[i32], tb: Table, cycles: bool, lists: &Lists) -> Place
+    requires { ⌜ Laid (now t) tb × Listed (now t) tb (now lists) ⌝ }
+    ensures { λ r. ⌜ r ≡ lowest (headCycleBy cycles (suc (tb .atoms)) (programOf (now (t .entry)) tb)) 1 (programOf (now (t .entry)) tb) ⌝ }
+{
+    if cycles {
+        return Place::Nowhere;
+    }
+    lowest_head(t, tb, lists)
+}
+
+// Refusal 9 at its lowest rule, or nothing. It is asked at one place, so that the compiler lets what it takes share the memory of 8.
 fn ninth(t: &[i32], tb: Table, lists: &Lists) -> Cycle
     requires { ⌜ Laid (now t) tb × Listed (now t) tb (now lists) ⌝ }
     ensures { λ r. ⌜ r ≡ ninth (lowest (aggregateCycle (suc (tb .atoms)) (programOf (now (t .entry)) tb)) 1 (programOf (now (t .entry)) tb)) ⌝ }
