@@ -49,8 +49,7 @@ fn choose(t: &[i32], tb: Table, ask: Ask, lists: &Lists, side: Side, plan: &mut 
     if side.conflict {
         return Solved::Nothing(counted(side.choices));
     }
-    let lowest = second_search::lowest_undefined(&side.values, tb.atoms);
-    if let Choice::Atom(p) = lowest {
+    if let Choice::Atom(p) = second_search::lowest_undefined(&side.values, tb.atoms) {
         if ask.limit <= side.choices {
             return Solved::Limit(counted(side.choices));
         }
@@ -58,7 +57,8 @@ fn choose(t: &[i32], tb: Table, ask: Ask, lists: &Lists, side: Side, plan: &mut 
         let Solved::Nothing(n) = first else {
             return first;
         };
-        return try_side(t, tb, ask, lists, side.on(p, false, n.choices), plan);
+        let sofar = n.choices;
+        return try_side(t, tb, ask, lists, side.on(p, false, sofar), plan);
     }
     tested(t, tb, ask, lists, side, plan)
 }

@@ -33,8 +33,8 @@ choose-returns t c =
 choose-lowest-undefined-requires : (t : ℕ) → choose-lts.Need-lowest-undefined-requires (choose-calls t) (choose-at t) choose.Post
 choose-lowest-undefined-requires t c κs = c .before .before .before .before .pre .1 .laid .fewAtoms
 
-choose-enum-known-lowest : (t : ℕ) → choose-lts.Need-enum-known-lowest (choose-calls t) (choose-at t) choose.Post
-choose-enum-known-lowest t c = search needs
+choose-enum-known-p : (t : ℕ) → choose-lts.Need-enum-known-p (choose-calls t) (choose-at t) choose.Post
+choose-enum-known-p t c = search needs
 
 choose-counted-requires-2 : (t : ℕ) → choose-lts.Need-counted-requires-2 (choose-calls t) (choose-at t) choose.Post
 choose-counted-requires-2 t c κs = search needs
@@ -45,7 +45,7 @@ choose-returns-2 t c =
     let i = k .before .before .before .before .before in
     let b = i .before .before in
     let a = b .args in
-    at-limit (a .ask .cycles) (a .t .now) (a .tb) (a .ask .limit) (a .t5) (i .if1 .left) (k .lowest .given .0 .0) (chosen-atom t k) (c .before .if2 .taken) (b .pre .1 .few) (a .plan .now) (c .counted2 .result) (c .counted2 .ensures)
+    at-limit (a .ask .cycles) (a .t .now) (a .tb) (a .ask .limit) (a .t5) (i .if1 .left) (k .p .given .0 .0) (chosen-atom t k) (c .before .if2 .taken) (b .pre .1 .few) (a .plan .now) (c .counted2 .result) (c .counted2 .ensures)
 
 choose-add-on : (t : ℕ) → choose-lts.Need-add-on (choose-calls t) (choose-at t) choose.Post
 choose-add-on t c =
@@ -67,11 +67,11 @@ choose-try-side-requires t c κs =
     let e = b .pre .0 in
     let h = w .before .if2 .left in
     let n = w .on .ensures .1 in
-    let f = fewer (a .ask .cycles) (a .t .now) (a .tb) (a .ask .limit) (a .t5) (i .if1 .left) (k .lowest .given .0 .0) (chosen-atom t k) true (w .on .result) (w .on .ensures .0) in (
+    let f = fewer (a .ask .cycles) (a .t .now) (a .tb) (a .ask .limit) (a .t5) (i .if1 .left) (k .p .given .0 .0) (chosen-atom t k) true (w .on .result) (w .on .ensures .0) in (
       omega (arith, e, f),
       (
         record { laid = R .laid; whole = R .whole; few = omega (arith, h, n); room = R .room },
-        calm-still (a .ask .cycles) (a .t .now) (a .tb) (a .ask .limit) (a .t5) (i .if1 .left) (k .lowest .given .0 .0) (chosen-atom t k) true (w .on .result) (w .on .ensures .0),
+        calm-still (a .ask .cycles) (a .t .now) (a .tb) (a .ask .limit) (a .t5) (i .if1 .left) (k .p .given .0 .0) (chosen-atom t k) true (w .on .result) (w .on .ensures .0),
       ),
     )
 
@@ -88,7 +88,7 @@ choose-returns-3 t c =
     let k = x .before .before .before .before in
     let i = k .before .before .before .before .before in
     let a = i .before .before .args in
-    first-ends (a .ask .cycles) (a .t .now) (a .tb) (a .ask .limit) (a .t5) (i .if1 .left) (k .lowest .given .0 .0) (chosen-atom t k) (x .before .if2 .left) (x .on .result) (x .on .ensures .0) (x .on .ensures .1)
+    first-ends (a .ask .cycles) (a .t .now) (a .tb) (a .ask .limit) (a .t5) (i .if1 .left) (k .p .given .0 .0) (chosen-atom t k) (x .before .if2 .left) (x .on .result) (x .on .ensures .0) (x .on .ensures .1)
     (a .plan .now) _ (y .try-side .result) (y .try-side .ensures) (holds-some (y .try-side .result) (c .match2 .keys2))
 
 choose-on-requires-2 : (t : ℕ) → choose-lts.Need-on-requires-2 (choose-calls t) (choose-at t) choose.Post
@@ -108,15 +108,15 @@ choose-try-side-requires-2 t c κs =
     let R = b .pre .1 in
     let e = b .pre .0 in
     let n = w .on2 .ensures .1 in
-    let f = fewer (a .ask .cycles) (a .t .now) (a .tb) (a .ask .limit) (a .t5) (i .if1 .left) (k .lowest .given .0 .0) (chosen-atom t k) false (w .on2 .result) (w .on2 .ensures .0) in
-    let q = few-first (a .ask .cycles) (a .t .now) (a .tb) (a .ask .limit) (a .t5) (i .if1 .left) (k .lowest .given .0 .0) (chosen-atom t k) (x .before .if2 .left) (x .on .result) (x .on .ensures .0) (x .on .ensures .1)
+    let f = fewer (a .ask .cycles) (a .t .now) (a .tb) (a .ask .limit) (a .t5) (i .if1 .left) (k .p .given .0 .0) (chosen-atom t k) false (w .on2 .result) (w .on2 .ensures .0) in
+    let q = few-first (a .ask .cycles) (a .t .now) (a .tb) (a .ask .limit) (a .t5) (i .if1 .left) (k .p .given .0 .0) (chosen-atom t k) (x .before .if2 .left) (x .on .result) (x .on .ensures .0) (x .on .ensures .1)
     (a .plan .now) _ (y .try-side .result) (y .try-side .ensures) (g .0 .0) (g .1) in
-    let m = as-was (a .ask .cycles) (a .t .now) (a .tb) (a .ask .limit) (a .t5) (i .if1 .left) (k .lowest .given .0 .0) (chosen-atom t k) (x .before .if2 .left) (x .on .result) (x .on .ensures .0) (x .on .ensures .1)
+    let m = as-was (a .ask .cycles) (a .t .now) (a .tb) (a .ask .limit) (a .t5) (i .if1 .left) (k .p .given .0 .0) (chosen-atom t k) (x .before .if2 .left) (x .on .result) (x .on .ensures .0) (x .on .ensures .1)
     (a .plan .now) _ (y .try-side .result) (y .try-side .ensures) (g .0 .0) (g .1) in (
       omega (arith, e, f),
       (
         record { laid = R .laid; whole = R .whole; few = omega (arith, n, q); room = subst (λ (l : List ℕ). a .tb .atoms ≤ length l) (sym m) (R .room) },
-        calm-still (a .ask .cycles) (a .t .now) (a .tb) (a .ask .limit) (a .t5) (i .if1 .left) (k .lowest .given .0 .0) (chosen-atom t k) false (w .on2 .result) (w .on2 .ensures .0),
+        calm-still (a .ask .cycles) (a .t .now) (a .tb) (a .ask .limit) (a .t5) (i .if1 .left) (k .p .given .0 .0) (chosen-atom t k) false (w .on2 .result) (w .on2 .ensures .0),
       ),
     )
 
@@ -134,7 +134,7 @@ choose-returns-4 t c =
     let k = x .before .before .before .before in
     let i = k .before .before .before .before .before in
     let a = i .before .before .args in
-    other-side (a .ask .cycles) (a .t .now) (a .tb) (a .ask .limit) (a .t5) (i .if1 .left) (k .lowest .given .0 .0) (chosen-atom t k) (x .before .if2 .left) (x .on .result) (x .on .ensures .0) (x .on .ensures .1)
+    other-side (a .ask .cycles) (a .t .now) (a .tb) (a .ask .limit) (a .t5) (i .if1 .left) (k .p .given .0 .0) (chosen-atom t k) (x .before .if2 .left) (x .on .result) (x .on .ensures .0) (x .on .ensures .1)
     (a .plan .now) _ (y .try-side .result) (y .try-side .ensures) (g .0 .0) (g .1) (w .on2 .result) (w .on2 .ensures .0) (w .on2 .ensures .1) _ (s .try-side2 .result) (s .try-side2 .ensures)
 
 choose-enum-told : (t : ℕ) → choose-lts.Need-enum-told (choose-calls t) (choose-at t) choose.Post
@@ -199,7 +199,7 @@ pub +choose+try-side-spec : {M : Type 1} → statement M
     (choose-counted-requires t)
     (choose-returns t)
     (choose-lowest-undefined-requires t)
-    (choose-enum-known-lowest t)
+    (choose-enum-known-p t)
     (choose-counted-requires-2 t)
     (choose-returns-2 t)
     (choose-add-on t)

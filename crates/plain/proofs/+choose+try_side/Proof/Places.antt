@@ -77,14 +77,14 @@ pub none-left : (t : ℕ) (c : choose-lts.After-enum-told (choose-calls t) (choo
 none-left t c = sym (c .before .before .lowest-undefined .ensures) ∙ ap found (c .enum-told .given .1)
 
 -- the atom that is chosen
-pub chosen-atom : (t : ℕ) (c : choose-lts.After-lowest (choose-calls t) (choose-at t) choose.Post)
-    → let a = c .before .before .before .before .before .before .before .args in lowest (valued (a .t5 .values)) (a .tb .atoms) ≡ some (c .lowest .given .0 .0)
-chosen-atom t c = sym (c .before .before .lowest-undefined .ensures) ∙ ap found (c .lowest .given .1)
+pub chosen-atom : (t : ℕ) (c : choose-lts.After-p (choose-calls t) (choose-at t) choose.Post)
+    → let a = c .before .before .before .before .before .before .before .args in lowest (valued (a .t5 .values)) (a .tb .atoms) ≡ some (c .p .given .0 .0)
+chosen-atom t c = sym (c .before .before .lowest-undefined .ensures) ∙ ap found (c .p .given .1)
 
-pub aim : (t : ℕ) (c : choose-lts.After-lowest (choose-calls t) (choose-at t) choose.Post) → (1 ≤ c .lowest .given .0 .0) × (c .lowest .given .0 .0 ≤ 256)
+pub aim : (t : ℕ) (c : choose-lts.After-p (choose-calls t) (choose-at t) choose.Post) → (1 ≤ c .p .given .0 .0) × (c .p .given .0 .0 ≤ 256)
 aim t c =
     let b = c .before .before .before .before .before .before .before in
-    let h = lowest-some (valued (b .args .t5 .values)) (b .args .tb .atoms) (c .lowest .given .0 .0) (chosen-atom t c) in
+    let h = lowest-some (valued (b .args .t5 .values)) (b .args .tb .atoms) (c .p .given .0 .0) (chosen-atom t c) in
     (h .0, omega (arith, h .1, b .pre .1 .laid .fewAtoms))
 
 -- a first side that is not told to hold nothing
