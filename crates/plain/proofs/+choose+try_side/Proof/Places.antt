@@ -31,7 +31,7 @@ use Rattle.plain.proofs.counted.Reads as counted-reads
 use Rattle.plain.proofs.passes.Side.on.Reads as on-reads
 use Rattle.plain.proofs.passes.propagate.Reads as propagate-reads
 use Rattle.plain.proofs.tested.Reads as tested-reads
-use Rattle.turns.proofs.lowest_undefined.Reads as lowest-undefined-reads
+use Rattle.second_search.proofs.lowest_undefined.Reads as lowest-undefined-reads
 
 abbrev pub μ-choose : Measures 3 choose-kinds.ps ℕ
 μ-choose κs a = 2 * undefinedTo (a .1 .0 .atoms) (valued (a .1 .1 .1 .1 .0 .values))
