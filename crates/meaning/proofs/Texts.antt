@@ -2,7 +2,7 @@
 --   old-edition   for an aggregate of the old edition whose tuples differ and whose values are not negative it is 01's definition (`specs/Listed.antt`)
 --   old-text      and so for every aggregate of 01, each element given its position as tuple
 --   takes, taken-once   "elements with the same tuple .. count once if any of their atoms is true"
---   none-true     count, sum, min and max of none in both editions
+--   none-true     count, sum, min and max of none in both editions;  min-of-none, max-of-none: in the new one
 -- Assumes nothing.
 use mathlib.Core.Path.{_≡_, refl, sym, ap, ap₂, _∙_}
 use mathlib.Core.Logic.{_⊎_, inl, inr, _↔_}
@@ -200,3 +200,10 @@ none-values I es h (e ∷ ts) = rw (contra (taken I es e) {b = false} (λ k. let
 pub none-true : (g : Aggregate) (I : Atoms) → ((e : Element) → e ∈ g .elements → I (e .atom) ≡ false) → compared g I ≡ compares (g .comparison) (g .threshold) (valueOf (g .edition) (g .function) [])
 unfolding compared
 none-true g I h = ap (λ (vs : List ℤ). compares (g .comparison) (g .threshold) (valueOf (g .edition) (g .function) vs)) (none-values I (g .elements) h (tuples (g .elements)))
+
+-- "min of none is above every number and max of none below every number"
+pub min-of-none : (t : ℤ) → (compares Greater t (valueOf New Min []) ≡ true) × (compares Less t (valueOf New Min []) ≡ false)
+min-of-none t = (refl, refl)
+
+pub max-of-none : (t : ℤ) → (compares Less t (valueOf New Max []) ≡ true) × (compares Greater t (valueOf New Max []) ≡ false)
+max-of-none t = (refl, refl)
