@@ -3,5 +3,6 @@ pub mod Run
 pub mod Tuples
 pub mod Elements
 pub mod Aggregates
+pub mod FirstFault
 pub mod Theorem
 pub mod Vectors

@@ -1,15 +1,20 @@
--- A table of the new edition is accepted exactly if its words are the encoding of contents within the ranges, and then of these: `accepted↔encoding`, `one-contents`.
+-- A table of the new edition is accepted exactly if its words are the encoding of contents within the ranges, and then of these: `accepted↔encoding`, `one-contents`; else the place
+-- is that of the first fault from the left: `first-fault`.
 -- Assumes nothing.
 use mathlib.Core.Path.{_≡_, refl, sym, ap, _∙_, subst}
 use mathlib.Core.Logic.{_↔_}
 use mathlib.Core.Bool.{Bool, true, false}
 use mathlib.Core.List.{List, [], _∷_, _++_, append-assoc, append-nil}
-use Prim.Native.Nat.{ℕ, zero, suc, _≤_}
+use Prim.Native.Nat.{ℕ, zero, suc, _+_, _-_, _≤_, _<_, min}
+use native.Mathlib.Omega.{arith}
 use lib.Dec.{T, leb}
 use lib.IntN.{ℤ, pos, natAbs}
-use lib.ListN.{length}
+use lib.ListN.{length, getD, take, drop, length-take, length-drop}
+use lib.Seq.{take-take, drop-cons}
 use borrow.Author.Tests.{leb-true, le-leb}
 use Rattle.results.specs.declared.Refusal.{Refusal}
+use Rattle.results.specs.declared.Refusal.the-variants.{Absent, Trailing}
+use Rattle.results.specs.Results.{placeOf}
 use Rattle.meaning.specs.Program.{Aggregate}
 use Rattle.table.specs.Roles.{count, Result, read, refused}
 use Rattle.table.specs.Contents.{NumberedRule, Each, RuleInRange, encodeRule, encodeAll}
@@ -21,8 +26,9 @@ use Rattle.table.proofs.Complete.{rule-reads}
 use Rattle.newer.specs.Roles.{role, Form, made, _>>=_, lifted, runForm}
 use Rattle.newer.specs.Contents.{Contents, AggregateInRange, InRange, encodeAggregate, encode}
 use Rattle.newer.specs.Grammar.{one, times, aggregate, section, table, Outcome, accepted, refusedFor, ended, outcomeBy, contentsOf}
-use Rattle.newer.specs.Promises.{Encoding}
+use Rattle.newer.specs.Promises.{Encoding, FirstFault}
 use Rattle.newer.proofs.Run.{role-fault, form-made, form-lifted, both, mapped, one-sound, Reads, one-reads, then-reads, made-reads}
+use Rattle.newer.proofs.FirstFault.{stopped, went}
 use Rattle.newer.proofs.Aggregates.{aggregate-sound, aggregate-reads}
 
 -- ---- a section
@@ -192,3 +198,75 @@ accepted↔encoding t c = (accepted-encoding t c, encoding-accepted t c)
 
 pub one-contents : (t : List ℤ) (c d : Contents) → Encoding t c → Encoding t d → c ≡ d
 one-contents t c d e f = ap (contentsIn c) (sym (encoding-accepted t c e) ∙ encoding-accepted t d f)
+
+-- ---- the first fault from the left
+
+few : (t : List ℤ) → length t ≤ 16384 → contentsOf t ≡ ended (runForm table 0 t)
+unfolding contentsOf
+few t h = ap (λ (b : Bool). outcomeBy b t) (le-leb (length t) 16384 h)
+
+abbrev refusalIn : Refusal → Outcome → Refusal
+refusalIn d (accepted c) = d
+refusalIn d (refusedFor r) = r
+
+same-refusal : {r s : Refusal} → refusedFor r ≡ refusedFor s → r ≡ s
+same-refusal {r} e = ap (refusalIn r) e
+
+module _ (t : List ℤ) (short : length t ≤ 16384) where
+  -- a beginning of the table is as short
+  cut : (k : ℕ) → length (take k t) ≤ 16384
+  cut k = rw (length-take k t) (omega arith)
+
+  stopped-first : (r : Refusal) → runForm table 0 t ≡ refused r → FirstFault t r
+  stopped-first r h =
+      let s = stopped table 0 t r h in
+      let n = s .m in
+      let p : placeOf r ≡ n = s .place ∙ zero-less n in
+      record {
+        inside = let l = s .inside in omega arith;
+        before = λ k l.
+            let q : k ≤ n = omega arith in
+            few (take k t) (cut k) ∙ ap ended (s .before k q) ∙ ap (λ (i : ℕ). refusedFor (Absent i)) (zero-less k);
+        there = λ u l a. few u l ∙ ap ended (s .after u (subst (λ (m : ℕ). take (suc m) u ≡ take (suc m) t) p a));
+      }
+    where
+      zero-less : (k : ℕ) → 0 + k ≡ k
+      zero-less k = omega arith
+
+  trailing-first : (c : Contents) (i : ℕ) (v : ℤ) (vs : List ℤ) → runForm table 0 t ≡ read c i (v ∷ vs) → FirstFault t (Trailing i)
+  trailing-first c i v vs h =
+      let g = went table 0 t c i (v ∷ vs) h in
+      let n = g .m in
+      let p : i ≡ n = g .index ∙ zero-less n in
+      let l : suc (length vs) ≡ length t - n = ap length (g .left) ∙ length-drop n t in
+      record {
+        inside = omega arith;
+        before = λ k q.
+            let z : k < n = omega arith in
+            few (take k t) (cut k) ∙ ap ended (g .before k z) ∙ ap (λ (m : ℕ). refusedFor (Absent m)) (zero-less k);
+        there = λ u q a.
+            let b : take (suc n) u ≡ take (suc n) t = subst (λ (m : ℕ). take (suc m) u ≡ take (suc m) t) p a in
+            let w = left-over u n (omega (arith, alike u t (suc n) b)) in
+            few u q ∙ ap ended (g .after u (shorter u t n b) ∙ ap (read c i) (w .2));
+      }
+    where
+      zero-less : (k : ℕ) → 0 + k ≡ k
+      zero-less k = omega arith
+
+      -- lists that begin alike are both long or both short
+      alike : (u t : List ℤ) (n : ℕ) → take n u ≡ take n t → min n (length u) ≡ min n (length t)
+      alike u t n e = sym (length-take n u) ∙ ap length e ∙ length-take n t
+
+      shorter : (u t : List ℤ) (n : ℕ) → take (suc n) u ≡ take (suc n) t → take n u ≡ take n t
+      shorter u t n e = sym (take-take n (suc n) u (omega arith)) ∙ ap (take n) e ∙ take-take n (suc n) t (omega arith)
+
+      left-over : (u : List ℤ) (n : ℕ) → n < length u → (w : ℤ) × (ws : List ℤ) × (drop n u ≡ w ∷ ws)
+      left-over u n h = (getD u n (pos 0), drop (suc n) u, drop-cons u n (pos 0) h)
+
+  pub first-fault : (r : Refusal) → contentsOf t ≡ refusedFor r → FirstFault t r
+  first-fault r e = go (runForm table 0 t) refl
+    where
+      go : (x : Result Contents) → runForm table 0 t ≡ x → FirstFault t r
+      go (read c i []) h = accepted≢refused (sym (few t short ∙ ap ended h) ∙ e)
+      go (read c i (v ∷ vs)) h = subst (FirstFault t) (same-refusal (sym (few t short ∙ ap ended h) ∙ e)) (trailing-first c i v vs h)
+      go (refused s) h = subst (FirstFault t) (same-refusal (sym (few t short ∙ ap ended h) ∙ e)) (stopped-first s h)
