@@ -1,0 +1,5 @@
+-- What the proofs of several functions share. Assumes nothing.
+pub mod Scanning
+pub mod TokenRuns
+pub mod TokenStarts
+pub mod Placing

@@ -1,0 +1,5 @@
+-- The definitions that the contracts cite.
+pub mod Scanning
+pub mod Lexemes
+pub mod Views
+pub mod Placing
