@@ -2,4 +2,5 @@
 pub mod Scanning
 pub mod TokenRuns
 pub mod TokenStarts
+pub mod Lexed
 pub mod Placing

@@ -23,6 +23,10 @@ stays : (c : Bool) (b : ℕ) (bs : List ℕ) (i k s r : ℕ) → between c b ≡
 stays true b bs i k s r h e = cc
 stays false b bs i k s r h e = any b bs i k s r e
 
+pub starts-any : (l : List ℕ) (k r q : ℕ) → startsFrom k r nothing l ≡ startsFrom k q nothing l
+starts-any [] k r q = none false k k r q refl
+starts-any (b ∷ bs) k r q = any b bs k k r q refl
+
 pub starts-gap : (c : Bool) (l : List ℕ) (i s r : ℕ) → startsFrom i s (opened c) l ≡ startsFrom (i + gap c l) r nothing (drop (gap c l) l)
 starts-gap c [] i s r = rw (gap-none c) (none c i (i + 0) s r (omega arith))
 starts-gap c (b ∷ bs) i s r = at (between c b) refl (λ j p. starts-gap (commentAfter c b) bs j p r)

@@ -1,4 +1,4 @@
--- The token that comes next, as the code takes it; `proofs/Lexing.antt` ties it to `notation`'s `Tokens`.
+-- The token that comes next, as the code takes it; `proofs/Lexed.antt` ties it to `notation`'s `Tokens`.
 --   startedAt bs s   the token that begins at index s, or the end
 --   lexAt bs i       the token that comes next from index i on
 -- Assumes nothing.

@@ -1,4 +1,4 @@
--- Definitions that follow the code which takes tokens, for its contracts; `proofs/Lexing.antt` ties them to `notation`'s `Tokens`.
+-- Definitions that follow the code which takes tokens, for its contracts; `proofs/Lexed.antt` ties them to `notation`'s `Tokens`.
 --   gap         how many bytes lead up to the next token, in a comment or not
 --   span        how many bytes of a kind stand here
 --   valueFrom   the value of the digits that stand here, after n

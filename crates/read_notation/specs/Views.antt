@@ -2,7 +2,7 @@
 --   held t          numbers above 4,194,305 are taken for that
 --   tokenOf bs x    the token of a lexeme; a word is the bytes from its start to the index after it
 --   Takes bs i x    x is the token that comes next from index i on, with where it begins; the others come next from the index after it
--- `proofs/Lexing.antt`: `lexAt` takes it. Assumes nothing.
+-- `proofs/Lexed.antt`: `lexAt` takes it. Assumes nothing.
 use mathlib.Core.Path.{_≡_}
 use mathlib.Core.List.{List, [], _∷_}
 use Prim.Native.Nat.{ℕ, _-_, min}

@@ -1,5 +1,5 @@
 // Reading 01's notation, from the bytes up: `scan` finds where tokens begin and end, `lexing` takes the token that comes next, `places` says line and column.
-// Meaning: `notation`, `specs/Tokens.antt`, through the definitions that follow the code, `specs/Scanning.antt`; `proofs/Lexing.antt` ties the two.
+// Meaning: `notation`, `specs/Tokens.antt`, through the definitions that follow the code, `specs/Scanning.antt`; `proofs/Lexed.antt` ties the two.
 pub mod lexing;
 pub mod places;
 pub mod scan;
