@@ -3,4 +3,5 @@ pub mod Scanning
 pub mod TokenRuns
 pub mod TokenStarts
 pub mod Lexed
+pub mod Taking
 pub mod Placing

@@ -2,4 +2,5 @@
 pub mod Scanning
 pub mod Lexemes
 pub mod Views
+pub mod Running
 pub mod Placing
