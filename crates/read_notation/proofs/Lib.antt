@@ -4,4 +4,5 @@ pub mod TokenRuns
 pub mod TokenStarts
 pub mod Lexed
 pub mod Taking
+pub mod Admitting
 pub mod Placing

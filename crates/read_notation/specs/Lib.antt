@@ -3,4 +3,5 @@ pub mod Scanning
 pub mod Lexemes
 pub mod Views
 pub mod Running
+pub mod Admitting
 pub mod Placing
