@@ -4,4 +4,5 @@ pub mod Lexemes
 pub mod Views
 pub mod Running
 pub mod Admitting
+pub mod Naming
 pub mod Placing
