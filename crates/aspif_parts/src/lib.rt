@@ -1,5 +1,6 @@
 // What the writer of aspif is made of: tests of an element's value, the sign of an aggregate literal's new atom, and the place of a literal.
 // `specs/` has the definitions that the writer's functions follow, `proofs/` their laws. Meaning: crate `aspif`, `specs/Writing.antt`.
+#![tactic(auto)]
 ghost use Rattle.std.specs.Prelude.{◌≡◌, not, ◌≤◌, ◌<◌, nat_abs, pos, length, get_or};
 ghost use Rattle.std.specs.Bool.{beq};
 ghost use Rattle.std.specs.Int.Signed.{non_neg};
@@ -12,7 +13,7 @@ use layout::Table;
 use meaning::{Comparison, Function};
 
 // A test of an element's value: less than the bound, or at least the bound.
-#[derive(Drop)]
+#[derive(Clone, Copy)]
 pub struct Test {
     pub comparison: Comparison,
     pub bound: usize,

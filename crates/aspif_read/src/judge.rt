@@ -8,7 +8,7 @@ use aspif_scan::machine::{Stage, State};
 use aspif_scan::marks::{count, light};
 
 // A rule by itself: how many words it and its aggregate take, how many aggregates it has, and the highest atom it names.
-#[derive(Drop)]
+#[derive(Clone, Copy)]
 pub enum Judged {
     Rule(usize, usize, usize),
     Beyond,

@@ -12,7 +12,7 @@ use aspif_scan::kind::{Kind, kind_of};
 use aspif_scan::marks::count;
 
 // Where the next word goes, and how many aggregates there were before.
-#[derive(Drop)]
+#[derive(Clone, Copy)]
 pub struct Next {
     pub at: usize,
     pub before: usize,

@@ -6,7 +6,7 @@ ghost use Rattle.aspif_read.specs.Survey.{no_rules, survey_from};
 
 use crate::survey::{Survey, survey_lines};
 
-#[derive(Drop)]
+#[derive(Clone, Copy)]
 pub struct Reader<'a> {
     pub text: &'a [u8],
     pub at: usize,

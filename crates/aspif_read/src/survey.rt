@@ -8,7 +8,7 @@ use crate::lines::{line_after, line_end};
 use aspif_scan::kind::{Kind, kind_of};
 
 // The table so far: its words, aggregates and rules, and the highest atom named.
-#[derive(Drop)]
+#[derive(Clone, Copy)]
 pub struct Totals {
     pub words: usize,
     pub aggregates: usize,
@@ -17,7 +17,7 @@ pub struct Totals {
 }
 
 // After one line: the table so far, or the text's end, or a refusal.
-#[derive(Drop)]
+#[derive(Clone, Copy)]
 pub enum Step {
     Next(Totals),
     Closing,
@@ -26,7 +26,7 @@ pub enum Step {
 }
 
 // After all lines: the table, or the line of a refusal, 15 or 14.
-#[derive(Drop)]
+#[derive(Clone, Copy)]
 pub enum Survey {
     Table(Totals),
     Beyond(usize),

@@ -8,7 +8,7 @@ use crate::putting::{put_aggregate, put_rule};
 use aspif_scan::scan::scan;
 
 // The judgement, or where the next word goes and how many aggregates there were before.
-#[derive(Drop)]
+#[derive(Clone, Copy)]
 pub struct Taken {
     pub judged: Judged,
     pub at: usize,

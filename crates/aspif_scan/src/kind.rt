@@ -7,7 +7,7 @@ ghost use Rattle.aspif_scan.specs.Scan.{kind_of};
 use text::scan::{run_end, run_start};
 
 // The closing 0, a comment, or a rule statement or what is outside the subset.
-#[derive(Drop)]
+#[derive(Clone, Copy)]
 pub enum Kind {
     Closing,
     Comment,

@@ -7,7 +7,7 @@ ghost use Rattle.aspif_scan.specs.Machine.{plainly, higher_of, start_of, exactly
 use crate::number::Number;
 
 // What is expected next; or that the statement is whole; or that the line is outside the subset.
-#[derive(Drop)]
+#[derive(Clone, Copy)]
 pub enum Stage {
     Rule,
     Disjunction,
@@ -27,7 +27,7 @@ pub enum Stage {
 
 // How far a statement has been read: what is expected, how many members of the list at hand are left, the last atom, the bound, the highest atom
 // of at most 256, and whether all numbers are in 01's ranges.
-#[derive(Drop)]
+#[derive(Clone, Copy)]
 pub struct State {
     pub stage: Stage,
     pub left: u64,

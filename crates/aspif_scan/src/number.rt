@@ -5,14 +5,14 @@ ghost use Rattle.text.specs.Text as T;
 ghost use Rattle.aspif_scan.specs.Number.{held, number_in, no_number};
 
 // The value of some digits, or that they are none.
-#[derive(Drop)]
+#[derive(Clone, Copy)]
 pub enum Digits {
     Value(u64),
     Bad,
 }
 
 // A number: whether the field is one, whether it is below 0, and its size.
-#[derive(Drop)]
+#[derive(Clone, Copy)]
 pub struct Number {
     pub good: bool,
     pub minus: bool,

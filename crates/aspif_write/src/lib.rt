@@ -2,6 +2,7 @@
 // laid twice by the same functions: first into no buffer, to find its length, so that a buffer that is too short stays as it is. The work is linear in
 // the table and in the text; besides the places of the table there are 256 bytes of local memory, the new atoms. Meaning: `specs/Promise.antt`; that the
 // promise has one answer only: `proofs/Unique.antt`.
+#![tactic(auto)]
 ghost use Rattle.std.specs.Prelude.{◌≤◌};
 ghost use Rattle.layout.specs.Layout.{Laid};
 ghost use Rattle.aspif.specs.Writing.{written};

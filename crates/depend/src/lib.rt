@@ -3,6 +3,7 @@
 // Memory: a name of one byte for each atom, and what one visit takes (`reach`): a list of one byte and a mark of one bit for each atom.
 // Cost: where a cycle of the kind can be, a few walks that settle the atoms on no cycle; then, for each circle of atoms that is left, one visit and a
 // walk back or a few; and a pass over the rules.
+#![tactic(auto)]
 ghost use Rattle.std.specs.Prelude.{◌≡◌, suc};
 ghost use Rattle.meaning.specs.Cycles.{head_cycle, aggregate_cycle};
 ghost use Rattle.layout.specs.Layout.{program_of, Laid};
@@ -18,14 +19,14 @@ mod circles;
 mod cycles;
 
 // The lowest rule of a kind, from 1, if there is one.
-#[derive(Drop)]
+#[derive(Clone, Copy)]
 pub enum Place {
     Nowhere,
     At(usize),
 }
 
 // Refusal 8 or 9, or nothing.
-#[derive(Drop)]
+#[derive(Clone, Copy)]
 pub enum Cycle {
     Nothing,
     Refused(Refusal),

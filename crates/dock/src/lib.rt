@@ -1,6 +1,7 @@
 // The entries for the dock, as `include/saucepebbly.h` declares them: the night's plan and the check of one. A slice is a pointer and a length; that these are
 // what they say and that the lent buffers do not overlap is all that a caller owes. Lent memory is an array of a fixed size, a plain pointer: nothing is said
 // of what it holds before or after, and no result depends on it. Meaning: `specs/Dock.antt`.
+#![tactic(auto)]
 ghost use Rattle.dock.specs.Dock.{Solves, Approves};
 
 use foundation::Candidates;

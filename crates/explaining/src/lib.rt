@@ -7,6 +7,7 @@
 // marks of earlier rounds, so what it adds itself is not seen by it. The walks read the rounds through a lent array, and an array of structs cannot be lent: so the
 // marks are two arrays of numbers, and go into the records when the last round is done. Meaning: crate `rounds`; how the rules are walked: `specs/Walk.antt`; how the
 // records are read: `specs/Kept.antt`. Memory: a word of 32 bits for each rule (1,024 at most), lent by the caller; two of 16 bits for each atom (256 at most).
+#![tactic(auto)]
 ghost use Rattle.std.specs.Prelude.{◌≡◌, false, ◌≤◌, length, take};
 ghost use Rattle.meaning.specs.Lists.{all};
 ghost use Rattle.interpretation.specs.State.{true_atoms, AllDefined};
@@ -24,14 +25,14 @@ use layout::Table;
 use rounds::Why;
 
 // The rounds and the rules so far, atom p's at index p - 1; 0 where it has none yet.
-#[derive(Drop)]
+#[derive(Clone, Copy)]
 pub struct Marks {
     pub rounds: [u16; 256],
     pub rules: [u16; 256],
 }
 
 // The marks after a walk, and whether it has added an atom.
-#[derive(Drop)]
+#[derive(Clone, Copy)]
 pub struct Walked {
     pub marks: Marks,
     pub any: bool,

@@ -4,6 +4,7 @@
 // candidates, are found once. A candidate is one word: the index at which the list of its positive atoms begins, times 256, plus the index of its
 // atom's mark. Meaning: crate `meaning`; how the candidates are walked: `specs/Walk.antt`. Memory: a word of 32 bits for each rule (1,024 at most), a byte
 // for each atom (256 at most).
+#![tactic(auto)]
 ghost use Rattle.std.specs.Prelude.{◌≡◌, Bool, not, ◌||◌, ◌≤◌, length, take};
 ghost use Rattle.meaning.specs.Lists.{all};
 ghost use Rattle.meaning.specs.Answers.{model};
@@ -22,14 +23,14 @@ use rules::Step;
 pub type Candidates = [u32; Table::RULES];
 
 // The atom that a rule adds, if it adds one.
-#[derive(Drop)]
+#[derive(Clone, Copy)]
 pub enum Adds {
     Nothing,
     Atom(usize),
 }
 
 // The marks after a walk, and how many candidates it has left.
-#[derive(Drop)]
+#[derive(Clone, Copy)]
 pub struct Walked {
     pub marks: [u8; 256],
     pub left: usize,

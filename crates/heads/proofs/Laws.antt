@@ -2,18 +2,18 @@
 --   places-lie, with-lie   a rule lies at each place
 --   rules_at_lem               the rules at all places are the program
 -- Assumes nothing.
-use mathlib.Core.Path.{◌≡◌, refl, sym, ap, ◌∙◌}
+use mathlib.Core.Path.{◌≡◌, refl, ap}
 use mathlib.Core.Bool.{Bool, true, false, cond}
 use mathlib.Core.List.{List, [], ◌∷◌, map}
-use Prim.Native.Nat.{ℕ, zero, suc, ◌+◌, ◌-◌, ◌≤◌, ◌<◌}
+use Prim.Native.Nat.{ℕ, zero, suc, ◌<◌}
 use native.Mathlib.Omega.{arith}
 use lib.IntN.{ℤ}
 use lib.ListN.{length, get_or}
 use Rattle.meaning.specs.Lists.{has}
 use Rattle.meaning.specs.Program.{Program}
-use Rattle.layout.specs.Layout.{past_rule, rule_at, rules_from, RuleLies, RulesLie, program_of, Laid}
+use Rattle.layout.specs.Layout.{past_rule, rule_at, rules_from, RuleLies, RulesLie}
 use Rattle.layout.specs.declared.Table.{Table}
-use Rattle.heads.specs.Heads.{places_from, places_of, with_head, AllLie}
+use Rattle.heads.specs.Heads.{places_from, with_head, AllLie}
 
 -- ---- a rule lies at each place
 

@@ -14,7 +14,7 @@ use Rattle.meaning.specs.Lists.{has}
 use Rattle.meaning.proofs.Cond.{eq_case}
 use Rattle.layout.specs.Layout.{atoms, part_at, Members, Laid}
 use Rattle.layout.specs.declared.Table.{Table}
-use Rattle.heads.specs.Heads.{bounds, size, places_of, with_head, list_at, Holds, Part, Listed, Whole, Counts, end_of, Ended, Regions, Room, Put}
+use Rattle.heads.specs.Heads.{bounds, size, places_of, with_head, list_at, Holds, Part, Whole, Counts, end_of, Ended, Regions, Room, Put}
 use Rattle.heads.proofs.Laws.{places_lie}
 use Rattle.heads.proofs.Walks.{places_length, with_nil, with_split, with_here, with_drop, has_zero}
 use Rattle.heads.proofs.Lists.{part}

@@ -12,7 +12,7 @@ use lib.IntN.{ℤ, nat_abs}
 use lib.ListN.{length, drop, length-map, length-take}
 use Rattle.meaning.specs.Lists.{has}
 use Rattle.meaning.proofs.Tools.{bit, number, contra, eq}
-use Rattle.layout.specs.Layout.{nat_at, part_at, atoms, past_rule, rule_at, RulesLie, Laid}
+use Rattle.layout.specs.Layout.{nat_at, part_at, past_rule, rule_at, RulesLie, Laid}
 use Rattle.layout.specs.declared.Table.{Table}
 use Rattle.heads.specs.Heads.{places_from, places_of, with_head}
 
@@ -89,12 +89,13 @@ module _ (t : List ℤ) where
 
   -- one rule more: it is in as many lists as there are atoms in its head
   total_cons : (i : ℕ) (l : List ℕ) (n : ℕ) → total t (i ∷ l) n ≡ number n (λ q. has (suc q) (rule_at t i).head) + total t l n
-  unfolding total with_head number
+  unfolding total with_head number bit
   total_cons i l zero = refl
   total_cons i l (suc n) = omega (arith, one (has (suc n) (rule_at t i).head), total_cons i l n)
     where
       one : (b : Bool) → length (cond b (i ∷ with_head t (suc n) l) (with_head t (suc n) l)) ≡ bit b + length (with_head t (suc n) l)
-      one b = unfold bit in elim b [ true ↦ omega arith | false ↦ omega arith ]
+      one true = omega arith
+      one false = omega arith
 
   head_words : (i : ℕ) → length (rule_at t i).head ≤ nat_at t i
   unfolding rule_at

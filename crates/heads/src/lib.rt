@@ -3,6 +3,8 @@
 // head. List p begins at the index that stands at index 2p and ends before the one that stands at index 2p + 1. Meaning: `specs/Heads.antt`.
 // The members of each list are counted first, which says where it ends; then the rules are put at the front of their lists, from the last on.
 // Memory: 514 words of 16 bits, and one for each rule (1,024 at most) and each atom of a head (16,384 at most): 35,844 bytes.
+#![tactic(auto)]
+
 ghost use Rattle.std.specs.Prelude.{◌≡◌, List, [], ℕ, ◌+◌, ◌*◌, ◌≤◌, ◌<◌, length, get_or, take, drop};
 ghost use Rattle.meaning.specs.Lists.{has};
 ghost use Rattle.layout.specs.Layout.{atoms, Members, Laid};

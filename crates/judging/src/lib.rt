@@ -1,6 +1,7 @@
 // Which table is refused, and why (01, "What comes back": "Order: .. 1, 10; then the first faulty word from the left ..; then 3, 8, 9"). Every entry
 // that is given a table asks here, and says which buffer of its own is judged in the place of 10, and whether it takes head cycles (request 14: then 8 is
 // not given). Nothing is written. Meaning: `specs/Refusals.antt`; that a table has one judgement: `proofs/Unique.antt`.
+#![tactic(auto)]
 ghost use Rattle.std.specs.Prelude.{◌≡◌, ◌≤◌, length};
 ghost use Rattle.judging.specs.Judging.{Judged, JudgedBy, JudgedWords, Filled, refused_reading, fault_of};
 
@@ -11,7 +12,7 @@ use results::Refusal;
 use table::{Fault, Reading};
 
 // The buffer that an entry is lent for what it writes or reads, as far as it is judged with the table.
-#[derive(Drop)]
+#[derive(Clone, Copy)]
 pub enum Buffer {
     // None is judged here.
     Nothing,

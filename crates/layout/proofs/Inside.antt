@@ -1,17 +1,17 @@
 -- What lies in an accepted table lies in its ranges: every atom of its program is one of 1 to N. Assumes nothing.
-use mathlib.Core.Path.{◌≡◌, refl, sym, ◌∙◌, ap, subst}
+use mathlib.Core.Path.{◌≡◌, sym, ◌∙◌, ap, subst}
 use mathlib.Core.Logic.{◌⊎◌, inl, inr}
 use mathlib.Core.List.Memᴰ
 use mathlib.Core.List.{List, [], ◌∷◌, map}
-use Prim.Native.Nat.{ℕ, zero, suc, ◌+◌, ◌-◌, ◌*◌, ◌≤◌, ◌<◌}
+use Prim.Native.Nat.{ℕ, zero, suc, ◌+◌, ◌-◌, ◌*◌, ◌<◌}
 use native.Mathlib.Omega.{arith}
 use lib.IntN.{ℤ, pos, nat_abs}
 use lib.ListN.{length, get_or, take, drop}
-use lib.Seq.{get_or-take, get_or-drop, length-take-le}
+use lib.Seq.{get_or-take, get_or-drop}
 use Rattle.meaning.specs.Lists.{◌∈◌}
-use Rattle.meaning.specs.Program.{Element, Literal, Rule, Program, In, RuleIn, AtomsIn}
+use Rattle.meaning.specs.Program.{Element, Literal, Rule, In, RuleIn, AtomsIn}
 use Rattle.layout.specs.declared.Table.{Table}
-use Rattle.layout.specs.Layout.{nat_at, part_at, atoms, Members, Listed, pairs, pairs_at, start_from, aggregate_at, AggregateLies, literal_of, pos_at, neg_at, aggs_at, past_rule, rule_at, rules_from, RuleLies, RulesLie, program_of, Laid}
+use Rattle.layout.specs.Layout.{nat_at, part_at, atoms, Members, pairs, pairs_at, start_from, aggregate_at, AggregateLies, literal_of, pos_at, neg_at, aggs_at, past_rule, rule_at, rules_from, RuleLies, RulesLie, program_of, Laid}
 
 -- a member of a mapped list comes from an index
 pub mapped_at {ℓ} : {A : Type ℓ} (f : ℤ → A) (l : List ℤ) {x : A} → x ∈ map f l → (k : ℕ) × (k < length l) × (x ≡ f (get_or l k (pos 0)))

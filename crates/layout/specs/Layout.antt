@@ -9,7 +9,7 @@
 --   Laid t tb          all places of tb are right, and everything lies within the words and within 01's ranges
 -- Reached by public contracts, and so to be believed: `function_by`, `comparison_by`.
 -- Assumes nothing.
-use Rattle.std.specs.Prelude.{◌≡◌, Bool, List, [], ◌∷◌, map, ℕ, zero, suc, ◌+◌, ◌-◌, ◌*◌, ◌≤◌, ◌<◌, T, ℤ, pos, negsuc, nat_abs, length, get_or, take, drop}
+use Rattle.std.specs.Prelude.{◌≡◌, List, [], ◌∷◌, map, ℕ, zero, suc, ◌+◌, ◌-◌, ◌*◌, ◌≤◌, ◌<◌, T, ℤ, pos, negsuc, nat_abs, length, get_or, take, drop}
 use Rattle.std.specs.Int.Signed.{non_neg}
 use Rattle.meaning.specs.Program.{Element, Aggregate, Literal, Rule, Program}
 use Rattle.meaning.specs.declared.Function.{Function}

@@ -2,6 +2,8 @@
 // are handed on as the part of the table that holds them, with no copy made". Of a rule `part` returns each of the four lists as that part of
 // the caller's slice, its count standing at the rule's own index, at `past` of it, at `past` of that, and at `literals_at`. Meaning:
 // `specs/Layout.antt`. Crate `table` finds the places; the functions here rely on them.
+#![tactic(auto)]
+
 ghost use Rattle.std.specs.Prelude.{◌≡◌, ◌+◌, ◌-◌, ◌*◌, ◌≤◌, ◌<◌, length, get_or, T, nat_abs, pos};
 ghost use Rattle.std.specs.Int.Signed.{non_neg};
 ghost use Rattle.layout.specs.Layout.{nat_at, part_at, past_at, function_by, comparison_by, pairs_at, past_aggregate, aggs_at, past_rule};
@@ -10,7 +12,7 @@ use meaning::{Comparison, Function};
 
 // Where the parts of an accepted table stand: the numbers of atoms, aggregates and rules, the index of the first rule, and the index at
 // which each aggregate begins.
-#[derive(Drop)]
+#[derive(Clone, Copy)]
 pub struct Table {
     pub atoms: usize,
     pub aggregates: usize,

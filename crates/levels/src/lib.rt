@@ -1,4 +1,6 @@
 // Sets of levels 1 to 256 as rows of four words. Meaning: `specs/Levels.antt`, read by `specs/View.antt`.
+#![tactic(auto)]
+
 ghost use Rattle.std.specs.Prelude.{◌≡◌, ◌≤◌, ◌<◌};
 ghost use Rattle.levels.specs.Levels.{no_levels, union, only, without, up_to, highest};
 ghost use Rattle.levels.specs.View.{row, rows};

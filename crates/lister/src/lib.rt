@@ -1,6 +1,7 @@
 // The entry that lists every plan (request 7 of 02): all answer sets in 01's order, each once, into lent rows of 256 bytes. It asks nothing of its
 // caller. Meaning: `specs/Listing.antt`, and of the refusals crate `judging`; that the promise has one answer only: `proofs/Unique.antt`; that the
 // first row is what `solve` answers: `proofs/FirstRow.antt`.
+#![tactic(auto)]
 ghost use Rattle.std.specs.Prelude.{◌≡◌};
 ghost use Rattle.lister.specs.Listing.{Listing};
 ghost use Rattle.lister.specs.Telling.{result_of};

@@ -1,5 +1,6 @@
 // The listing of every plan (request 7 of 02), over an accepted table: the search goes on after a plan "as after a conflict whose reason is all present levels". Meaning: crate
 // `search`, `specs/Listing.antt`; how the code's rows and struct are read: `specs/Rows.antt`.
+#![tactic(auto)]
 ghost use Rattle.std.specs.Prelude.{◌≡◌, ◌+◌, ◌*◌, ◌≤◌, ◌<◌, ◌/◌, length};
 ghost use Rattle.interpretation.specs.State.{unset, true_atoms};
 ghost use Rattle.interpretation.specs.View.{view, valued, choices};
@@ -18,7 +19,7 @@ use outcome::{Ending, Found, Start};
 use turns::Back;
 
 // How a listing ended: every plan is listed, there is one more than rows, or the limit is met.
-#[derive(Drop)]
+#[derive(Clone, Copy)]
 pub enum Kind {
     Complete,
     Full,
@@ -26,7 +27,7 @@ pub enum Kind {
 }
 
 // What a listing reports.
-#[derive(Drop)]
+#[derive(Clone, Copy)]
 pub struct Told {
     pub kind: Kind,
     pub number: usize,

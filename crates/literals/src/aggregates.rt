@@ -12,7 +12,7 @@ use interpretation::Value;
 use meaning::{Comparison, Function};
 
 // Count or sum over an aggregate's true elements, and over those that could be true.
-#[derive(Drop)]
+#[derive(Clone, Copy)]
 pub struct Totals {
     pub low: usize,
     pub high: usize,

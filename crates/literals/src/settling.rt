@@ -16,7 +16,7 @@ use crate::aggregates;
 use meaning::{Comparison, Function};
 
 // A walk over the elements that are true (or false): whether a run of them settles the aggregate; the reasons of that run, or of all of them.
-#[derive(Drop)]
+#[derive(Clone, Copy)]
 pub struct Run {
     pub settled: bool,
     pub reason: [u64; 4],

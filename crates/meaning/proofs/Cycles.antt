@@ -2,13 +2,13 @@
 -- Assumes nothing.
 use mathlib.Core.Path.{refl}
 use mathlib.Core.Logic.{◌↔◌}
-use mathlib.Core.Bool.{Bool, false, not, ◌&&◌}
+use mathlib.Core.Bool.{false, not, ◌&&◌}
 use Prim.Native.Nat.{ℕ, suc}
 use native.Mathlib.Omega.{arith}
 use lib.Dec.{eqb, ltb}
-use Rattle.meaning.specs.Lists.{Is, ◌∈◌, all, any}
+use Rattle.meaning.specs.Lists.{Is, all, any}
 use Rattle.meaning.specs.Dependency.{Free, arc, any_arc, HeadCycle, AggregateCycle}
-use Rattle.meaning.specs.Program.{Element, Rule, Program, Literal, Below, In, RuleIn, AtomsIn}
+use Rattle.meaning.specs.Program.{Rule, Program, Below, In, RuleIn, AtomsIn}
 use Rattle.meaning.specs.Cycles.{via, mutually, head_cycle, returns, aggregate_cycle, inside, rule_inside, accepted}
 use Rattle.meaning.proofs.Tools.{not_is, is_not_lem, and_i, and_l, and_r, eq, neq, any_i, any_e, via_chain, chain_via, contra, all_at, all_i, clash}
 use Rattle.meaning.proofs.Bounds.{lt, lt_i}

@@ -1,6 +1,6 @@
 -- The test of `specs/Enumerated.antt` is exact: a list of atoms passes exactly if they are an answer set. Assumes nothing.
 use mathlib.Core.Path.{◌≡◌, refl, sym, ◌∙◌, ap, subst, fun_ext}
-use mathlib.Core.Logic.{◌⊎◌, inl, inr, ◌↔◌}
+use mathlib.Core.Logic.{◌⊎◌, inl, inr}
 use mathlib.Core.Bool.{Bool, true, false, not, ◌&&◌}
 use mathlib.Core.List.Memᴰ
 use mathlib.Core.List.{List, [], ◌∷◌, ◌++◌, map}
@@ -10,7 +10,7 @@ use Rattle.meaning.specs.Program.{Program}
 use Rattle.meaning.specs.Aggregates.{Atoms}
 use Rattle.meaning.specs.Answers.{model, reduct, ◌⊆◌, AnswerSet}
 use Rattle.meaning.specs.Enumerated.{among, sublists, lacks, is_answer, atoms_from, answers_of}
-use Rattle.meaning.proofs.Tools.{clash, cases, not_is, is_not_lem, and_i, and_l, and_r, contra, both, any_i, any_e, any_cases, has_i, has_e, keep_i, keep_e}
+use Rattle.meaning.proofs.Tools.{clash, not_is, is_not_lem, and_i, and_l, and_r, contra, both, any_i, any_e, any_cases, has_i, has_e, keep_i, keep_e}
 
 -- ---- members of joined and of mapped lists
 

@@ -2,13 +2,11 @@
 --   before-irreflexive, before-transitive, before-asymmetric, before-total    the order
 --   first_unique      two that both come first are equal
 -- Assumes nothing.
-use mathlib.Core.Path.{◌≡◌, refl, sym, ◌∙◌, ap}
+use mathlib.Core.Path.{◌≡◌, sym, ◌∙◌, ap}
 use mathlib.Core.Logic.{◌≢◌, ◌⊎◌, inl, inr}
-use mathlib.Core.Bool.{Bool, true, false}
+use mathlib.Core.Bool.{true, false}
 use Prim.Native.Nat.{ℕ, zero, suc, ◌≤◌, ◌<◌}
 use native.Mathlib.Omega.{arith}
-use Rattle.meaning.specs.Lists.{Is}
-use Rattle.meaning.specs.Program.{In}
 use Rattle.meaning.specs.Aggregates.{Atoms}
 use Rattle.meaning.specs.Answers.{Before, First}
 use Rattle.meaning.proofs.Tools.{clash}

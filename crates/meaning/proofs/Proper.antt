@@ -2,9 +2,8 @@
 -- that proofs use.
 -- Assumes nothing.
 use mathlib.Core.Logic.{◌⊎◌, inl, inr}
-use mathlib.Core.Bool.{Bool, false}
+use mathlib.Core.Bool.{false}
 use mathlib.Core.Path.{◌≡◌}
-use Prim.Native.Nat.{ℕ}
 use Rattle.meaning.specs.Lists.{Is}
 use Rattle.meaning.specs.Program.{Program}
 use Rattle.meaning.specs.Aggregates.{Atoms}

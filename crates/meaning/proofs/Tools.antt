@@ -96,6 +96,7 @@ neq_i m n f = contra (eqb m n) {b = false} (λ h. absurd (f (eq m n h))) refl
 module _ {A : Type 0} where
   pub all_at : (f : A → Bool) {x : A} (l : List A) → Is (all f l) → x ∈ l → Is (f x)
   all_at f (y ∷ l) h (Memᴰ.head e) = ap f e ∙ and_l _ _ h
+  all_at f [] h x3 = elim x3 [ ]
   all_at f (y ∷ l) h (Memᴰ.tail m) = all_at f l (and_r (f y) (all f l) h) m
 
   pub all_i : (f : A → Bool) (l : List A) → ((x : A) → x ∈ l → Is (f x)) → Is (all f l)
@@ -104,6 +105,7 @@ module _ {A : Type 0} where
 
   pub any_i : (f : A → Bool) {x : A} (l : List A) → x ∈ l → Is (f x) → Is (any f l)
   any_i f (y ∷ l) (Memᴰ.head e) h = or_l _ _ (rw e at h)
+  any_i f [] x3 h = elim x3 [ ]
   any_i f (y ∷ l) (Memᴰ.tail m) h = or_r (f y) _ (any_i f l m h)
 
   pub any_e : (f : A → Bool) (l : List A) → Is (any f l) → (x : A) × (x ∈ l) × Is (f x)
@@ -139,6 +141,7 @@ module _ {A : Type 0} where
   keep_i f (y ∷ l) (Memᴰ.head e) h =
       let k : Is (f y) = rw e at h in
       rw k (Memᴰ.head e)
+  keep_i f [] x3 h = elim x3 [ ]
   keep_i f (y ∷ l) (Memᴰ.tail m) h = cons_if_tail (f y) y (keep_i f l m h)
 
   pub keep_e : (f : A → Bool) {x : A} (l : List A) → x ∈ keep f l → (x ∈ l) × Is (f x)
@@ -195,12 +198,13 @@ number_lt (suc n) f g h a k x y = at (λ l. number_lt n f g (λ a k. h a (omega 
         omega (arith, bit_le (f n) (g n) (h n (omega arith)), rest l)
 
 pub number_top : (n : ℕ) (f : ℕ → Bool) → number n f ≤ n
-unfolding number
+unfolding number bit
 number_top zero f = zero-le
 number_top (suc n) f = omega (arith, number_top n f, top (f n))
   where
     top : (b : Bool) → bit b ≤ 1
-    top b = unfold bit in elim b [ true ↦ le_refl 1 | false ↦ zero-le ]
+    top true = le_refl 1
+    top false = zero-le
 
 -- some number below n passes, or none does
 pub find : (n : ℕ) (f : ℕ → Bool) → ((a : ℕ) × (a < n) × Is (f a)) ⊎ ((a : ℕ) → a < n → f a ≡ false)

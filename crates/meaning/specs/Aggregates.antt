@@ -5,7 +5,7 @@
 --   compares     the comparison with the threshold: without a value "the comparison is then false"
 --   compared     an aggregate's comparison in an interpretation
 -- Assumes nothing.
-use Rattle.std.specs.Prelude.{Bool, true, false, List, [], ◌∷◌, ℕ, zero, ◌+◌, min, max, length, ltb, ℤ, pos, negsuc}
+use Rattle.std.specs.Prelude.{Bool, true, false, List, [], ◌∷◌, ℕ, zero, ◌+◌, min, max, length, ltb, ℤ, negsuc}
 use Rattle.std.proofs.Math.Option.{Option, none, some}
 use Rattle.meaning.specs.Lists.{cons_if}
 use Rattle.meaning.specs.declared.Function.{Function}

@@ -2,7 +2,7 @@
 -- `proofs/Cycles.antt` shows each test exact, `HeadCycle`, `AggregateCycle` and `AtomsIn` being what is meant.
 -- Reached by public contracts, and so to be believed: `inside`.
 -- Assumes nothing.
-use Rattle.std.specs.Prelude.{ℕ, zero, suc, Bool, not, ◌&&◌, ◌||◌, List, eqb, ltb}
+use Rattle.std.specs.Prelude.{ℕ, zero, suc, Bool, not, ◌&&◌, ◌||◌, eqb, ltb}
 use Rattle.meaning.specs.Lists.{all, any}
 use Rattle.meaning.specs.Program.{Rule, Program, Literal}
 use Rattle.meaning.specs.Dependency.{arc, any_arc}

@@ -5,7 +5,7 @@
 --   HeadCycle    "two atoms of one head depend on each other through chains from head atom to positive body atom"
 --   AggregateCycle   "with arcs from head atom to aggregate element atom added, a cycle contains such an added arc", charged to the rule that adds it
 -- Assumes nothing.
-use Rattle.std.specs.Prelude.{◌≡◌, ◌≢◌, Bool, ◌&&◌, ◌||◌, List, ℕ, eqb}
+use Rattle.std.specs.Prelude.{◌≡◌, ◌≢◌, Bool, ◌&&◌, ◌||◌, ℕ, eqb}
 use Rattle.meaning.specs.Lists.{Is, ◌∈◌, any, has}
 use Rattle.meaning.specs.Program.{Element, Literal, Rule, Program}
 

@@ -20,6 +20,7 @@ numbered_in i (s ∷ P) k r (inr h) = Memᴰ.tail (numbered_in (suc i) P k r h)
 
 pub in_numbered : (i : ℕ) (P : Program) {r : Rule} → r ∈ P → (k : ℕ) × NumberedFrom i P k r
 in_numbered i (s ∷ P) (Memᴰ.head e) = (i, inl (refl, e))
+in_numbered i [] {r = r} x' = elim x' [ ]
 in_numbered i (s ∷ P) (Memᴰ.tail m) = let t = in_numbered (suc i) P m in (t.0, inr t.1)
 
 pub numbered_from_lem : (i : ℕ) (P : Program) (k : ℕ) (r : Rule) → NumberedFrom i P k r → i ≤ k

@@ -13,7 +13,7 @@ use layout::Table;
 
 // A side of a choice: each atom's value (0 undefined, 1 true, 2 false; atom p at index p - 1) and the choices opened so far; of the pass at hand, whether it
 // has changed a value, and whether it has met a conflict.
-#[derive(Drop)]
+#[derive(Clone, Copy)]
 pub struct Side {
     pub values: [u8; 256],
     pub choices: u32,

@@ -6,7 +6,7 @@ ghost use Rattle.levels.specs.View.{row};
 ghost use Rattle.reach.specs.Visits.{Part, Apart, Meeting, within, Queue, Put};
 
 // The marks, and how many atoms are marked.
-#[derive(Drop)]
+#[derive(Clone, Copy)]
 pub struct Marked {
     pub marks: [u64; 4],
     pub count: usize,

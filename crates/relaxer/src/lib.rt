@@ -2,6 +2,7 @@
 // order, and each one is kept with which a plan still exists. It asks nothing of its caller. Meaning: `specs/Promise.antt`, and crate `relaxing`; of the refusals
 // crate `judging`; that the promise has one answer only: `proofs/Unique.antt`. Each offer is a search of its own with the call's limit: at most one more than
 // there are constraints. With a small limit the call can end with limit where `solve` finds a plan: it is meant for use after "none".
+#![tactic(auto)]
 ghost use Rattle.std.specs.Prelude.{◌≡◌, not, cond, ◌||◌, ◌++◌, ◌∷◌, ◌+◌, ◌≤◌, ◌<◌, suc, length, set, drop};
 ghost use Rattle.meaning.specs.Program.{Program};
 ghost use Rattle.levels.specs.View.{row};
@@ -26,7 +27,7 @@ pub mod kept;
 pub mod rules;
 
 // What is held while constraints are offered: how the last trial that counts ended, the numbers of the constraints kept, and the values of the plan.
-#[derive(Drop)]
+#[derive(Clone, Copy)]
 pub struct Offered {
     pub ending: Ending,
     pub kept: Kept,

@@ -4,7 +4,7 @@
 --   report-determines, check-determines   of a result of solving, and of the check;  refusal-determines: of a refused listing;  relax-determines: of a refused giving up;  pinned-determines: of a call that changes a session
 --   number_unique, place_unique           the promises of `number` and `place` have one answer each
 use mathlib.Core.Path.{◌≡◌, refl, sym, ◌∙◌, ap}
-use mathlib.Core.List.{List, [], ◌∷◌}
+use mathlib.Core.List.{[], ◌∷◌}
 use Prim.Native.Nat.{ℕ}
 use native.Mathlib.Omega.{arith}
 use lib.ListN.{get_or}

@@ -1,10 +1,12 @@
 // What comes back (01, "What comes back"): the refusals, and the results of solving and of the check. Meaning: `specs/Results.antt`, which
 // states 01's number and values for each case. Every crate that refuses uses these.
+#![tactic(auto)]
+
 ghost use Rattle.std.specs.Prelude.{◌≡◌};
 ghost use Rattle.results.specs.Results.{number_of, place_of};
 
 // A refusal; those with a place hold it.
-#[derive(Drop)]
+#[derive(Clone, Copy)]
 pub enum Refusal {
     // 1: more than 16,384 words.
     TooManyWords,
@@ -57,14 +59,14 @@ pub enum Refusal {
 }
 
 // What is asked with a table: whether head cycles are taken (request 14), and the limit, any unsigned 32-bit number.
-#[derive(Drop)]
+#[derive(Clone, Copy)]
 pub struct Ask {
     pub cycles: bool,
     pub limit: u32,
 }
 
 // What a result of solving counts: the choices, the skips, and the greatest number of passes that any one propagation took.
-#[derive(Drop)]
+#[derive(Clone, Copy)]
 pub struct Counts {
     pub choices: u32,
     pub skips: u32,
@@ -72,7 +74,7 @@ pub struct Counts {
 }
 
 // The result of solving: an answer, none or limit with the counts, or a refusal.
-#[derive(Drop)]
+#[derive(Clone, Copy)]
 pub enum Solved {
     Answer(Counts),
     Nothing(Counts),
@@ -81,7 +83,7 @@ pub enum Solved {
 }
 
 // The result of the check.
-#[derive(Drop)]
+#[derive(Clone, Copy)]
 pub enum Checked {
     Yes,
     No,
@@ -89,7 +91,7 @@ pub enum Checked {
 }
 
 // The result of a writer: how much it wrote, or a refusal, which writes nothing.
-#[derive(Drop)]
+#[derive(Clone, Copy)]
 pub enum Written {
     Wrote(usize),
     Refused(Refusal),
@@ -97,7 +99,7 @@ pub enum Written {
 
 // The result of listing every plan (request 7): how many are listed, with the counts: all there are, there is one more than rows, or the limit is
 // met; or a refusal, which writes nothing.
-#[derive(Drop)]
+#[derive(Clone, Copy)]
 pub enum Listed {
     Complete(usize, Counts),
     Full(usize, Counts),
@@ -107,7 +109,7 @@ pub enum Listed {
 
 // The result of giving up constraints (request 13): the number of the rules that are dropped; the rules with heads alone have no plan; a trial met the
 // limit; or a refusal. Only the first writes.
-#[derive(Drop)]
+#[derive(Clone, Copy)]
 pub enum Relaxed {
     Answer(usize),
     Nothing,
@@ -116,7 +118,7 @@ pub enum Relaxed {
 }
 
 // The result of a call that changes a session: it is done, or a refusal, which leaves the session as it stood.
-#[derive(Drop)]
+#[derive(Clone, Copy)]
 pub enum Pinned {
     Done,
     Refused(Refusal),

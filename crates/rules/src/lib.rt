@@ -1,6 +1,7 @@
 // Steps a to c at one rule, read from the table's words under the values of a partial interpretation (01, "Propagation" and "Reasons and jumps"):
 // what the rule asks, and the reason for it. Meaning: `specs/Demand.antt`; laws for callers' proofs: `proofs/Rule.antt` and `proofs/Alone.antt`.
 // Nothing here writes.
+#![tactic(auto)]
 ghost use Rattle.std.specs.Prelude.{◌≡◌, Bool, false, not, ◌++◌, ◌≤◌, length};
 ghost use Rattle.levels.specs.View.{row, rows};
 ghost use Rattle.interpretation.specs.View.{valued};
@@ -14,7 +15,7 @@ use interpretation::Value;
 use layout::Table;
 
 // What a rule asks: nothing, it is in conflict, or an atom is to be set.
-#[derive(Drop)]
+#[derive(Clone, Copy)]
 pub enum Step {
     Nothing,
     Conflict,

@@ -1,5 +1,6 @@
 // Prints, for each case on standard input, what the reader of aspif says of it, a line a case: the number of words and the words, or the refusal;
 // then how many words of the buffer are as before. tools/read_aspif.py makes the cases and the lines of `stdout` from vectors with right answers.
+#![tactic(auto)]
 mod input;
 
 use libc::STDOUT_FILENO;

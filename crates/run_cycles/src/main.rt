@@ -2,6 +2,7 @@
 // empty where the table is to be solved; each comes after its length in bytes, four bytes, low byte first. A solved table has two lines: the line that the text program
 // would print, and `why` with an atom, its round and its rule for each atom that has a round or a rule. A checked plan has one: yes, no, or the refusal.
 // tools/cycles.py makes the cases and the lines of `stdout` from vectors of request 14.
+#![tactic(auto)]
 use libc::{STDIN_FILENO, STDOUT_FILENO};
 use results::{Ask, Checked, Solved};
 use rounds::Why;

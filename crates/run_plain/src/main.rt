@@ -1,6 +1,7 @@
 // Puts each table on standard input through both engines. A text, the limit and the words as the text program reads them, comes after its length in bytes, four
 // bytes, low byte first. For each text the plain engine's line is printed; and then `differs`, where the jumping engine with the same limit says something else,
 // though the plain one has not met it. tools/plain.py makes the texts and the lines of `stdout`.
+#![tactic(auto)]
 use libc::{STDIN_FILENO, STDOUT_FILENO};
 use results::{Ask, Solved};
 use text::printer::print;

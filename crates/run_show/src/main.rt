@@ -1,5 +1,6 @@
 // Writes, for each case on standard input, the table in 01's notation into a buffer of the case's length. tools/shown.py makes the cases and the
 // lines of `stdout`, and says what a case is: a text after its length in bytes, four bytes, low byte first.
+#![tactic(auto)]
 use libc::{STDIN_FILENO, STDOUT_FILENO};
 use results::Written;
 use text::reader::{Reading, read};

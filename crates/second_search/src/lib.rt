@@ -1,6 +1,7 @@
 // The second search of request 14, on the table's words: "look for a smaller model of the reduct by a second search: over the candidate's true atoms, steps a to c
 // on the reduct's rules, the lowest undefined atom tried false first, stepping back one choice at a time, keeping all atoms not counting as smaller". No reasons
 // are kept: the plain search reads none. The candidate's values are lent. Meaning: crate `smaller`; how the code's arrays are read: `specs/Looking.antt`.
+#![tactic(auto)]
 ghost use Rattle.std.specs.Prelude.{◌≡◌, Bool, true, false, map, ◌≤◌, suc, ltb};
 ghost use Rattle.meaning.specs.Answers.{body, reduct};
 ghost use Rattle.interpretation.specs.State.{AllDefined, true_atoms, lowest};
@@ -20,7 +21,7 @@ use layout::Table;
 use rules::Step;
 
 // What the test says of the candidate, with the choices that it spent: no smaller model was found, or one was; or the limit stopped the test.
-#[derive(Drop)]
+#[derive(Clone, Copy)]
 pub enum Tested {
     Passed(u32),
     Failed(u32),
@@ -28,14 +29,14 @@ pub enum Tested {
 }
 
 // What a pass, or passes, did: whether an atom was set, and whether there was a conflict.
-#[derive(Drop)]
+#[derive(Clone, Copy)]
 pub struct Steps {
     pub changed: bool,
     pub conflict: bool,
 }
 
 // What a turn does after propagation.
-#[derive(Drop)]
+#[derive(Clone, Copy)]
 pub enum Turn {
     Smaller,
     Limit,

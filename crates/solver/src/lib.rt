@@ -1,5 +1,6 @@
 // The two entries of the base: `solve` and `approve` (01, "What comes back"). Neither asks anything of its caller. Meaning: `specs/`, one file for
 // each entry, and of the refusals crate `judging`; that each promise has one answer only: `proofs/Unique.antt`.
+#![tactic(auto)]
 ghost use Rattle.std.specs.Prelude.{◌≡◌, true, ◌≤◌, length};
 ghost use Rattle.meaning.specs.Answers.{model};
 ghost use Rattle.interpretation.specs.State.{true_atoms, AllDefined};
@@ -27,7 +28,7 @@ use table::Fault;
 pub mod plans;
 
 // What comes back from solving: the result, and for each atom why it is in the plan, atom p's at index p - 1.
-#[derive(Drop)]
+#[derive(Clone, Copy)]
 pub struct Solution {
     pub solved: Solved,
     pub whys: [Why; 256],

@@ -51,7 +51,7 @@ pub fn report(found: Found, n: usize, plan: &mut [u8]) -> Solved
 }
 
 // Whether each byte of an offered plan is 0 or 1, or the index of the first that is not.
-#[derive(Drop)]
+#[derive(Clone, Copy)]
 pub enum Offer {
     Bad(usize),
     Good,

@@ -1,26 +1,25 @@
 -- A rule's literals: membership, the first that passes a test, how many pass, and the body of a rule in an interpretation.
 -- Assumes nothing.
-use mathlib.Core.Path.{◌≡◌, refl, sym, ap, ◌∙◌, subst}
+use mathlib.Core.Path.{◌≡◌, refl, sym, ap, ◌∙◌}
 use mathlib.Core.Logic.{◌⊎◌, inl, inr}
-use mathlib.Core.Bool.{Bool, true, false, not, cond}
-use mathlib.Core.Option.{Option, none, some}
+use mathlib.Core.Bool.{Bool, true, false, cond}
+use mathlib.Core.Option.{none, some}
 use mathlib.Core.List.Memᴰ
 use mathlib.Core.List.{List, [], ◌∷◌, ◌++◌, map}
 use Prim.Native.Nat.{ℕ, ◌+◌}
 use native.Mathlib.Omega.{arith}
 use Rattle.meaning.specs.Lists.{Is, ◌∈◌, any}
 use Rattle.meaning.specs.Aggregates.{Atoms}
-use Rattle.meaning.specs.Program.{Rule, Literal, Element}
-use Rattle.meaning.specs.Answers.{literal, body}
-use Rattle.interpretation.specs.State.{Cell, undefined, defined, Defined}
+use Rattle.meaning.specs.Program.{Rule, Literal}
+use Rattle.meaning.specs.Answers.{body}
+use Rattle.interpretation.specs.State.{Cell, undefined, defined}
 use Rattle.interpretation.specs.declared.Value.{Value}
 use Rattle.interpretation.specs.declared.Value.TheVariants.{True, False, Undefined}
-use Rattle.valuing.specs.Values.{says_true, says_false, says_undefined, opposite, signed, signed_bool, Lit, atom_lit, agg_lit, value, true_in}
+use Rattle.valuing.specs.Values.{says_true, says_false, says_undefined, signed, Lit, atom_lit, agg_lit, true_in}
 use Rattle.interpretation.specs.View.{bool_value, cell_value}
 use Rattle.steps.specs.Steps.{head_lits, body_lits, first_of, count_of}
-use Rattle.meaning.proofs.Tools.{clash, not_is, is_not_lem, cases, any_i, contra}
+use Rattle.meaning.proofs.Tools.{clash, not_is, is_not_lem, any_i, contra}
 use Rattle.meaning.proofs.Meaning.{BodyTrue, body_i, body_e}
-use Rattle.valuing.proofs.Exact.{differ, literal_decided}
 
 -- ---- membership
 

@@ -8,7 +8,7 @@ use crate::points::Asked;
 use results::Refusal;
 
 // A number that has passed its tests, as its size and whether it is below 0, with the next place; or a refusal.
-#[derive(Drop)]
+#[derive(Clone, Copy)]
 pub enum Got {
     Number(usize, bool, usize),
     Refused(Refusal),

@@ -5,7 +5,7 @@ ghost use Rattle.stored.specs.Machine.{aggregate_next, element_next, rule_next, 
 
 // The number that comes next. With it stand: how many aggregates there are, how many aggregates or rules follow this one, how many lists of the rule follow
 // this one, how many members of the list follow this one, and the number of the member before.
-#[derive(Drop)]
+#[derive(Clone, Copy)]
 pub enum Point {
     Aggregates,
     Function(usize, usize),
@@ -22,7 +22,7 @@ pub enum Point {
 
 // What is asked of a number: a count of 0 to the first, a function, comparison or value of 0 to the first, a threshold, an atom or an aggregate literal of
 // 1 to the first whose number is above the second; or no number is to come.
-#[derive(Drop)]
+#[derive(Clone, Copy)]
 pub enum Asked {
     Count(usize),
     Quantity(usize),

@@ -10,14 +10,14 @@ use crate::points::{Point, asks, nothing, step};
 use results::Refusal;
 
 // What names come to: whether one is not empty, and the next place; or a refusal.
-#[derive(Drop)]
+#[derive(Clone, Copy)]
 pub enum Named {
     Names(bool, usize),
     Refused(Refusal),
 }
 
 // What bytes hold: how many words, and whether some name is not empty; or a refusal.
-#[derive(Drop)]
+#[derive(Clone, Copy)]
 pub enum Taken {
     Words(usize, bool),
     Refused(Refusal),

@@ -1,6 +1,7 @@
 // Steps d and e at one atom (01, "Propagation" and "Reasons and jumps"), read from the table's words under the values of a partial interpretation:
 // whether rules support the atom, what follows, and why. Meaning: `specs/Asking.antt`; laws for callers' proofs: `proofs/Atom.antt`,
 // `proofs/Forcing.antt`. Nothing here writes.
+#![tactic(auto)]
 mod atoms;
 
 ghost use Rattle.std.specs.Prelude.{◌≡◌, ◌≤◌, ◌<◌, length, true};
@@ -20,7 +21,7 @@ use literals::First;
 
 // What steps d and e ask at an atom: nothing; it is true and no rule supports it; it is undefined and no rule supports it, so it becomes false; or it is
 // true and the rule at that index of the table alone supports it, and has undefined atoms.
-#[derive(Drop)]
+#[derive(Clone, Copy)]
 pub enum Ask {
     Nothing,
     Conflict,
@@ -29,14 +30,14 @@ pub enum Ask {
 }
 
 // What step e sets next.
-#[derive(Drop)]
+#[derive(Clone, Copy)]
 pub enum Next {
     Set(usize, bool),
     Nothing,
 }
 
 // Why a rule fails to support an atom: an atom of its head or body, or an aggregate literal by its index in the list. Nobody: it does support it.
-#[derive(Drop)]
+#[derive(Clone, Copy)]
 pub enum Witness {
     Nobody,
     Atom(usize),

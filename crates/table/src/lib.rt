@@ -5,6 +5,7 @@
 // Meaning: `specs/Grammar.antt` has the table's words with their roles and the contents that they make, `specs/Contents.antt` the ranges, the
 // encoding and the program. `proofs/Theorem.antt`: accepted exactly if an encoding, and the place is the first fault. What later crates rely on is
 // `layout`'s `Laid`, which `proofs/Accepted.antt` shows of every accepted table.
+#![tactic(auto)]
 ghost use Rattle.std.specs.Prelude.{◌≡◌, drop};
 ghost use Rattle.table.specs.Roles.{run};
 ghost use Rattle.table.specs.Grammar.{rules};
@@ -21,41 +22,41 @@ mod roles;
 mod starts;
 
 // What reading a table gives: where its parts stand, and nothing at fault; or the refusal, and then the table is empty.
-#[derive(Drop)]
+#[derive(Clone, Copy)]
 pub struct Reading {
     pub table: Table,
     pub fault: Fault,
 }
 
-#[derive(Drop)]
+#[derive(Clone, Copy)]
 pub enum Fault {
     Nothing,
     Refused(Refusal),
 }
 
 // A word with the index of the next one, or a refusal.
-#[derive(Drop)]
+#[derive(Clone, Copy)]
 pub enum Next {
     Word(i32, Cursor),
     Refused(Refusal),
 }
 
 // A word that has passed its tests, without its sign, with the index of the next one; or a refusal.
-#[derive(Drop)]
+#[derive(Clone, Copy)]
 pub enum Got {
     Number(usize, Cursor),
     Refused(Refusal),
 }
 
 // The index past a part of the table, or the first refusal in it.
-#[derive(Drop)]
+#[derive(Clone, Copy)]
 pub enum Part {
     Past(Cursor),
     Refused(Refusal),
 }
 
 // The section of the aggregates: their number, where each begins, and the index past them or the first refusal.
-#[derive(Drop)]
+#[derive(Clone, Copy)]
 pub struct Places {
     pub number: usize,
     pub starts: [u16; Table::AGGREGATES],

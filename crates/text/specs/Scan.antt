@@ -4,7 +4,7 @@
 --   limit_in, word_in, count_of   what the inner functions return of a limit, a word, all words
 --   listed             the words before the first bad one
 -- Assumes nothing.
-use Rattle.std.specs.Prelude.{Bool, true, false, List, [], ◌∷◌, ℕ, zero, suc, ◌+◌, min, ℤ, length}
+use Rattle.std.specs.Prelude.{true, false, List, [], ◌∷◌, ℕ, suc, ◌+◌, min, ℤ, length}
 use Rattle.std.proofs.Math.Option.{Option, some, none}
 use Rattle.text.specs.declared.number.Digits.{Digits}
 use Rattle.text.specs.declared.number.Digits.TheVariants as digits

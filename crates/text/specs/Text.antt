@@ -7,7 +7,7 @@
 --   text_of bs       the limit and the words; or refusal 13; or refusal 12 with the first bad number, from 0
 --   ReadAs          the contract of `read`: what it returns of that, and what it leaves in the buffer of words
 -- Assumes nothing.
-use Rattle.std.specs.Prelude.{◌≡◌, Bool, true, false, ◌&&◌, ◌||◌, List, [], ◌∷◌, ◌++◌, ℕ, zero, suc, ◌+◌, ◌*◌, ◌-◌, eqb, leb, ltb, ℤ, pos, negsuc, neg_ℤ, length}
+use Rattle.std.specs.Prelude.{◌≡◌, Bool, true, false, ◌&&◌, ◌||◌, List, [], ◌∷◌, ◌++◌, ℕ, suc, ◌+◌, ◌*◌, ◌-◌, eqb, leb, ltb, ℤ, pos, negsuc, neg_ℤ, length}
 use Rattle.std.proofs.Math.Option.{Option, some, none}
 use Rattle.results.specs.declared.Refusal.{Refusal}
 use Rattle.results.specs.declared.Refusal.TheVariants.{BadNumber, TooManyBytes}

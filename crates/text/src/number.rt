@@ -4,21 +4,21 @@ ghost use Rattle.text.specs.Text as T;
 ghost use Rattle.text.specs.Scan.{capped, limit_in, word_in};
 
 // The value of some digits, or that they are none.
-#[derive(Drop)]
+#[derive(Clone, Copy)]
 pub enum Digits {
     Value(u64),
     Bad,
 }
 
 // The limit that a run writes.
-#[derive(Drop)]
+#[derive(Clone, Copy)]
 pub enum Limit {
     Good(u32),
     Bad,
 }
 
 // The word that a run writes.
-#[derive(Drop)]
+#[derive(Clone, Copy)]
 pub enum Word {
     Good(i32),
     Bad,

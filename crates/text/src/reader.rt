@@ -9,14 +9,14 @@ use crate::scan::{run_end, run_start};
 use results::Refusal;
 
 // How many words there are, or which number is the first bad one.
-#[derive(Drop)]
+#[derive(Clone, Copy)]
 pub enum Count {
     Words(usize),
     Bad(usize),
 }
 
 // What a text says: the limit and how many words were written; or a refusal, 13 or 12.
-#[derive(Drop)]
+#[derive(Clone, Copy)]
 pub enum Reading {
     Read(u32, usize),
     Refused(Refusal),

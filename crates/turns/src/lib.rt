@@ -1,5 +1,6 @@
 // What a turn of the search asks after its propagation (01, "Reasons and jumps"): which atom is next, what the final test says, what is to be done, and
 // where a conflict leads. All of it is asked through lent values; nothing here changes the state. Meaning: `specs/Turns.antt`.
+#![tactic(auto)]
 ghost use Rattle.std.specs.Prelude.{◌≡◌, ◌-◌, ◌≤◌, max, ltb};
 ghost use Rattle.levels.specs.View.{row};
 ghost use Rattle.interpretation.specs.State.{lowest, true_atoms, AllDefined};
@@ -18,7 +19,7 @@ use outcome::Outcome;
 use second_search::Tested;
 
 // What a turn does after propagation; where the final test was made, with the choices that it spent.
-#[derive(Drop)]
+#[derive(Clone, Copy)]
 pub enum Turn {
     Answer(u32),
     Limit(u32),
@@ -27,7 +28,7 @@ pub enum Turn {
 }
 
 // Where a conflict leads, with the skips that it adds: to the end, or back to a level, whose choice atom becomes false.
-#[derive(Drop)]
+#[derive(Clone, Copy)]
 pub enum Back {
     End(u32),
     Level(usize, usize, u32),

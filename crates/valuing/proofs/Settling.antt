@@ -7,7 +7,6 @@ use mathlib.Core.Logic.{◌⊎◌, inl, inr}
 use mathlib.Core.Bool.{Bool, true, false, cond, not, ◌&&◌, ◌||◌}
 use mathlib.Core.List.Memᴰ
 use mathlib.Core.List.{List, [], ◌∷◌, ◌++◌, map}
-use lib.IntN.{ℤ}
 use Rattle.meaning.specs.Lists.{Is, ◌∈◌, any, cons_if, has}
 use Rattle.meaning.specs.Aggregates.{Atoms, values, value_of, compares, compared}
 use Rattle.meaning.specs.declared.Function.{Function}
@@ -19,7 +18,7 @@ use Rattle.valuing.specs.Values.{says_true, says_false, says_undefined, lowest_o
 use Rattle.meaning.specs.Program.{Element, Aggregate}
 use Rattle.valuing.specs.Exact.{Completes}
 use Rattle.valuing.specs.Settling.{known_if, restricted, settles, is_false, is_defined, atoms_that, runs, singles, tried, first_that, settling_of}
-use Rattle.meaning.proofs.Tools.{clash, cases, not_is, is_not_lem, has_i, has_e}
+use Rattle.meaning.proofs.Tools.{clash, not_is, has_i, has_e}
 use Rattle.meaning.proofs.Least.{values_same}
 use Rattle.valuing.proofs.Compared.{lowest_completes}
 use Rattle.valuing.proofs.Exact.{differ, aggregate_right}
@@ -101,6 +100,7 @@ pub atoms_in_lem : (f : Cell → Bool) (a : ℕ → Cell) (es : List Element) (e
 atoms_in_lem f a (d ∷ es) e (Memᴰ.head q) h =
     let k : Is (f (a d.atom)) = ap (λ (z : Element). f (a z.atom)) (sym q) ∙ h in
     rw k (Memᴰ.head (ap (λ (z : Element). z.atom) q))
+atoms_in_lem f a [] e x'' h = elim x'' [ ]
 atoms_in_lem f a (d ∷ es) e (Memᴰ.tail m) h = at (f (a d.atom)) (atoms_in_lem f a es e m h)
   where
     at : (b : Bool) → e.atom ∈ atoms_that f a es → e.atom ∈ cons_if b d.atom (atoms_that f a es)

@@ -1,10 +1,10 @@
 -- For count and sum the walk of `specs/Walk.antt` finds what `settling_of` says.
 -- Assumes nothing.
-use Prim.Native.Nat.{ℕ, zero, suc, ◌+◌, ◌-◌}
+use Prim.Native.Nat.{ℕ, ◌+◌}
 use native.Mathlib.Omega.{arith}
 use mathlib.Core.Path.{◌≡◌, refl, sym, ap, ap₂, ◌∙◌, subst}
 use mathlib.Core.Logic.{◌⊎◌, inl, inr}
-use mathlib.Core.Bool.{Bool, true, false, cond, not, ◌&&◌, ◌||◌, beq}
+use mathlib.Core.Bool.{Bool, true, false, cond, not, beq}
 use mathlib.Core.Option.{Option, some}
 use mathlib.Core.List.Memᴰ
 use mathlib.Core.List.{List, [], ◌∷◌, ◌++◌}
@@ -18,9 +18,9 @@ use Rattle.meaning.specs.declared.Function.TheVariants.{Count, Sum, Min, Max}
 use Rattle.meaning.specs.declared.Comparison.{Comparison}
 use Rattle.interpretation.specs.State.{Cell, undefined, defined, truth_of}
 use Rattle.valuing.specs.Values.{says_undefined, lowest_of, highest_of, possibly, between, asks_each, value_by, aggregate_value}
-use Rattle.valuing.specs.Settling.{known_if, restricted, settles, is_false, is_defined, atoms_that, runs, tried, first_that, settling_of}
+use Rattle.valuing.specs.Settling.{known_if, restricted, settles, is_false, is_defined, atoms_that, runs, first_that, settling_of}
 use Rattle.valuing.specs.Walk.{adds, weight, add_if, drop_if, worth, whole, alike, Step, walk, keeps, true_step, false_step, settling_walk, atoms_differ}
-use Rattle.meaning.proofs.Tools.{clash, cases, not_is, is_not_lem, and_l, and_r, contra, any_i, eq_i, has_i, has_e}
+use Rattle.meaning.proofs.Tools.{clash, cases, not_is, and_l, and_r, contra, any_i, eq_i, has_i, has_e}
 use Rattle.valuing.proofs.Settling.{atoms_in_lem, atoms_from_lem}
 use Rattle.valuing.proofs.Shortest.{shortest, runs_shortest, map_same, shortest_step, spare, tried_adds}
 

@@ -7,7 +7,7 @@ use Rattle.meaning.specs.Program.{Element, Literal}
 use Rattle.meaning.specs.Answers.{literal}
 use Rattle.interpretation.specs.State.{Cell, defined}
 use Rattle.interpretation.specs.declared.Value.{Value}
-use Rattle.interpretation.specs.declared.Value.TheVariants.{True, False, Undefined}
+use Rattle.interpretation.specs.declared.Value.TheVariants.{True, False}
 use Rattle.valuing.specs.Values.{Lit, atom_lit, agg_lit, value, true_in}
 
 -- X is a completion of a at the elements' atoms: it has the value of each that is defined

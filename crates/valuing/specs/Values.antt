@@ -3,7 +3,7 @@
 --   aggregate_value   an aggregate's comparison; literal_value: an aggregate or its negation
 --   Lit, value       a literal of a rule: an atom or its negation, or an aggregate literal; its value
 -- Assumes nothing.
-use Rattle.std.specs.Prelude.{ℕ, Bool, true, false, not, ◌&&◌, ◌||◌, List, [], ◌∷◌}
+use Rattle.std.specs.Prelude.{ℕ, Bool, true, false, not, ◌&&◌, ◌||◌}
 use Rattle.std.proofs.Math.Option.{some}
 use Rattle.meaning.specs.Aggregates.{Atoms, values, compares, compared}
 use Rattle.meaning.specs.Lists.{any}
@@ -11,7 +11,7 @@ use Rattle.meaning.specs.declared.Function.{Function}
 use Rattle.meaning.specs.declared.Function.TheVariants.{Count, Sum, Min, Max}
 use Rattle.meaning.specs.declared.Comparison.{Comparison}
 use Rattle.meaning.specs.declared.Comparison.TheVariants.{Less, Greater}
-use Rattle.meaning.specs.Program.{Element, Aggregate, Literal}
+use Rattle.meaning.specs.Program.{Aggregate, Literal}
 use Rattle.meaning.specs.Answers.{literal}
 use Rattle.interpretation.specs.declared.Value.{Value}
 use Rattle.interpretation.specs.declared.Value.TheVariants.{True, False, Undefined}

@@ -1,4 +1,6 @@
 // Words of the table as numbers on their own.
+#![tactic(auto)]
+
 ghost use Rattle.std.specs.Prelude.{◌≡◌, not, T, nat_abs, pos, length, get_or, ◌<◌};
 ghost use Rattle.std.specs.Int.Signed.{non_neg};
 
