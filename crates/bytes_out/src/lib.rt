@@ -1,6 +1,7 @@
 // Bytes, decimal numbers and fields of numbers, written into a lent buffer from an index on. What would lie past the buffer's end is left out, and
 // the index goes on all the same, so that the same functions find how long a text is and write it. Meaning: `specs/Putting.antt`.
 #![tactic(auto)]
+
 ghost use Rattle.std.specs.Prelude.{◌≡◌, [], ◌∷◌, ◌+◌, ◌%◌, ◌≤◌, min, set};
 ghost use Rattle.text.specs.Line.{decimal};
 ghost use Rattle.bytes_out.specs.Putting.{Put, field_text, signed_text};

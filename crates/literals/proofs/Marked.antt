@@ -113,10 +113,12 @@ module _ (c : Comparison) (k : ℕ) where
 
   pub passing_member : (e : Element) (es : List Element) → e ∈ es → part_of (ok e) 1 ≤ passing_of c k es
   passing_member e (d ∷ es) (Memᴰ.head q) = let x : part_of (ok e) 1 ≡ part_of (ok d) 1 = ap (λ (z : Element). part_of (ok z) 1) q in omega arith
+  passing_member e [] x' = elim x' [ ]
   passing_member e (d ∷ es) (Memᴰ.tail m) = let h = passing_member e es m in omega arith
 
   failing_member : (e : Element) (es : List Element) → e ∈ es → part_of (not (ok e)) 1 ≤ failing_of es
   failing_member e (d ∷ es) (Memᴰ.head q) = let x : part_of (not (ok e)) 1 ≡ part_of (not (ok d)) 1 = ap (λ (z : Element). part_of (not (ok z)) 1) q in omega arith
+  failing_member e [] x' = elim x' [ ]
   failing_member e (d ∷ es) (Memᴰ.tail m) = let h = failing_member e es m in omega arith
 
   -- ---- marks by what is known of each element
@@ -165,6 +167,7 @@ module _ (c : Comparison) (k : ℕ) where
         subst (λ (z : Element). marks_by (seen z.atom) (d ∷ es) ≡ marked_by (cell_value (a z.atom)) (ok z) (unknown (ltb (part_of (ok z) 1) (passing_of c k (d ∷ es))) (ltb (part_of (not (ok z)) 1) (failing_of (d ∷ es))))) (sym q)
         (ap₂ (λ (v : Value) (m : Marks). marked_by v (ok d) m) (it_is d.atom) (marks_unknown (seen d.atom) es (λ x m. only_it d.atom x.atom (λ y. apart d x es h m (sym y))))
         ∙ ap (marked_by (cell_value (a d.atom)) (ok d)) (ap₂ unknown (shift (ok d) (passing_of c k es)) (shift (not (ok d)) (failing_of es))))
+    marks_one e [] x'' h = elim x'' [ ]
     marks_one e (d ∷ es) (Memᴰ.tail m) h =
         ap₂ (λ (v : Value) (n : Marks). marked_by v (ok d) n) (only_it e.atom d.atom (λ y. apart d e es h m y))
         (marks_one e es m (and_r (not (any (λ y. eqb d.atom y.atom) es)) _ h))

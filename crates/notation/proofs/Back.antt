@@ -6,7 +6,7 @@ use Prim.Native.Nat.{ℕ}
 use lib.Dec.{T}
 use lib.IntN.{ℤ}
 use lib.ListN.{length}
-use Rattle.table.specs.Contents.{Contents, InRange, encode}
+use Rattle.table.specs.Contents.{Contents, encode}
 use Rattle.table.specs.Grammar.{Outcome, accepted, refused_for, contents_of}
 use Rattle.table.proofs.Accepted.{accepted_encoding}
 use Rattle.notation.specs.Notation.{named, text_by, text_of}

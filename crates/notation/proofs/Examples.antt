@@ -1,7 +1,7 @@
 -- Tables and their texts, computed. Assumes nothing.
 use mathlib.Core.Path.{◌≡◌, refl}
-use mathlib.Core.List.{List, [], ◌∷◌}
-use lib.IntN.{ℤ, pos, negsuc}
+use mathlib.Core.List.{[], ◌∷◌}
+use lib.IntN.{pos, negsuc}
 use Rattle.meaning.specs.declared.Function.TheVariants.{Count, Sum, Min, Max}
 use Rattle.meaning.specs.declared.Comparison.TheVariants.{Less, Greater}
 use Rattle.table.specs.Contents.{Contents}

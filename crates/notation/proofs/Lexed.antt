@@ -1,15 +1,15 @@
 -- The tokens of bytes: numbers, and parts one after another. Assumes nothing.
 use mathlib.Core.Path.{◌≡◌, refl, sym, ap, ◌∙◌, subst}
 use mathlib.Core.Bool.{Bool, true, false, cond, ◌&&◌, ◌||◌}
-use mathlib.Core.List.{List, [], ◌∷◌, ◌++◌, map, append_assoc, append-nil}
-use Prim.Native.Nat.{ℕ, zero, suc, ◌+◌, ◌-◌, ◌*◌, ◌/◌, ◌%◌, ◌≤◌, ◌<◌}
+use mathlib.Core.List.{List, [], ◌∷◌, ◌++◌, map, append_assoc}
+use Prim.Native.Nat.{ℕ, zero, suc, ◌+◌, ◌-◌, ◌*◌, ◌/◌, ◌%◌, ◌<◌}
 use native.Mathlib.Omega.{arith}
-use borrow.Author.Tests.{lt-ltb, le-leb, ltb-true, ltb-false, ne_eqb}
+use borrow.Author.Tests.{le-leb, ltb-true, ltb-false, ne_eqb}
 use lib.Dec.{leb, ltb, eqb}
 use Rattle.text.specs.Line.{decimal}
 use Rattle.text.proofs.Decimal.{decimal_low, decimal_high}
 use Rattle.notation.specs.Notation.{some, before, joined_from}
-use Rattle.notation.specs.Tokens.{Token, number, word, neck, mark, end, Open, nothing, digits, letters, colon, comment, digit, letter, goes, fresh, alone, longer, within, over, tokens_from, tokens}
+use Rattle.notation.specs.Tokens.{Token, number, mark, Open, nothing, digits, letters, colon, comment, digit, letter, goes, fresh, alone, longer, within, over, tokens_from, tokens}
 use Rattle.notation.proofs.TokenLists.{before_t, joined_t}
 
 -- ---- one byte

@@ -2,9 +2,9 @@
 use mathlib.Core.Path.{◌≡◌, refl, sym, ap, ◌∙◌, subst}
 use mathlib.Core.Bool.{Bool, true, false, cond, not}
 use mathlib.Core.List.{List, [], ◌∷◌, ◌++◌, map, append_assoc, append-nil}
-use Prim.Native.Nat.{ℕ, zero, suc}
+use Prim.Native.Nat.{ℕ, suc}
 use lib.Dec.{leb}
-use lib.IntN.{ℤ, pos, negsuc, nat_abs}
+use lib.IntN.{ℤ, negsuc, nat_abs}
 use lib.ListN.{take}
 use lib.Signed.{non_neg}
 use Rattle.meaning.specs.Program.{Element, Aggregate}
@@ -16,9 +16,9 @@ use Rattle.table.specs.Contents.{NumberedRule, Contents, aggregate_by}
 use Rattle.text.specs.Line.{decimal}
 use Rattle.notation.specs.Notation.{some, before, joined_from, joined, comma, bar, not_word, function_text, comparison_text, element_text, threshold_text, aggregate_text, atom_text, name_text, literal_text, body_parts, stop, rule_text, atoms_line, name_line, names_text, rule_line, rules_text, text_by}
 use Rattle.notation.specs.Notation as notation
-use Rattle.notation.specs.Tokens.{Token, number, word, neck, mark, end, nothing, fresh, alone, tokens_from, tokens}
+use Rattle.notation.specs.Tokens.{Token, number, word, mark, end, fresh, alone, tokens_from, tokens}
 use Rattle.notation.proofs.TokenLists.{joined_t, function_word, comparison_mark, element_t, threshold_t, aggregate_t, not_t, name_t, literal_t, atom_t, body_t, neck_t, rule_t, atoms_t, name_line_t, names_t, rule_line_t, rules_t, table_t}
-use Rattle.notation.proofs.Lexed.{Stops, NoMinus, lex_number, lex_colon, no_minus, Lexes, Closed, both, lexed_number, AllLex, map_lex, append_lex, some_lex, joined_lex}
+use Rattle.notation.proofs.Lexed.{Stops, lex_number, lex_colon, no_minus, Lexes, Closed, both, lexed_number, AllLex, map_lex, append_lex, some_lex, joined_lex}
 
 -- ---- fixed parts
 

@@ -1,15 +1,14 @@
 -- An aggregate's tokens are read as that aggregate. Assumes nothing.
 use mathlib.Core.Path.{◌≡◌, refl, sym, ap, ◌∙◌, subst}
-use mathlib.Core.Bool.{Bool, true, false, cond, ◌&&◌}
-use mathlib.Core.List.{List, [], ◌∷◌, ◌++◌, map, append_assoc, append-nil}
+use mathlib.Core.Bool.{Bool, true, false, ◌&&◌}
+use mathlib.Core.List.{List, [], ◌∷◌, ◌++◌, map, append_assoc}
 use mathlib.Core.Option.{Option, some}
 use Prim.Native.Nat.{ℕ, zero, suc, ◌+◌, ◌≤◌, ◌<◌}
 use native.Mathlib.Omega.{arith}
 use borrow.Author.Tests.{le-leb, lt-leb}
-use lib.Dec.{T, ltb, leb}
+use lib.Dec.{T, leb}
 use lib.IntN.{ℤ, pos, negsuc}
 use lib.ListN.{length, length-map}
-use lib.Signed.{le_z}
 use Rattle.meaning.specs.Lists.{Is}
 use Rattle.meaning.specs.Program.{Element, Aggregate}
 use Rattle.meaning.specs.declared.Function.{Function}
@@ -18,8 +17,8 @@ use Rattle.meaning.specs.declared.Comparison.{Comparison}
 use Rattle.meaning.specs.declared.Comparison.TheVariants.{Less, Greater}
 use Rattle.table.specs.Roles.{within}
 use Rattle.table.specs.Contents.{Each, Ascending, AggregateInRange}
-use Rattle.notation.specs.Tokens.{Token, number, word, neck, mark, end}
-use Rattle.notation.specs.Parser.{outside, Parser, done, stop, next, ◌>>=◌, Result, made, failed, run, last_from, member}
+use Rattle.notation.specs.Tokens.{Token, number, word, mark}
+use Rattle.notation.specs.Parser.{outside, Parser, done, next, ◌>>=◌, made, run, last_from}
 use Rattle.notation.specs.Aggregates.{elements_from, aggregate, function_of, function_by, function_in, threshold_in, comparison_in}
 use Rattle.notation.proofs.TokenLists.{joined_t, element_t, threshold_t, comparison_mark, function_word, rest_t}
 use Rattle.notation.proofs.Runs.{bind, check_run, last_snoc, snoc_long, member_then}

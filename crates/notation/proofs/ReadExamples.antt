@@ -1,7 +1,7 @@
 -- Texts, and what reading them gives, computed. Assumes nothing.
 use mathlib.Core.Path.{◌≡◌, refl}
-use mathlib.Core.List.{List, [], ◌∷◌}
-use lib.IntN.{ℤ, pos, negsuc}
+use mathlib.Core.List.{[], ◌∷◌}
+use lib.IntN.{pos, negsuc}
 use Rattle.table.specs.Contents.{encode, encode_aggregate, encode_rule}
 use Rattle.table.specs.Roles.{fault}
 use Rattle.table.specs.Roles as roles

@@ -12,10 +12,9 @@ use lib.Seq.{length-take-le, take-suc}
 use lib.Signed.{non_neg}
 use Rattle.meaning.specs.Program.{Aggregate}
 use Rattle.table.specs.Contents.{Each, Ascending, AggregateInRange, no_aggregate, aggregate_by}
-use Rattle.notation.specs.Notation.{turn, turns}
+use Rattle.notation.specs.Notation.{turns}
 use Rattle.notation.specs.Tokens.{Token, number}
 use Rattle.notation.specs.Parser.{last_from}
-use Rattle.notation.specs.Grammar.{Body}
 use Rattle.notation.proofs.TokenLists.{not_t, name_t, aggregate_t, rest_t, literal_t}
 use Rattle.notation.proofs.Runs.{last_snoc, snoc_long}
 use Rattle.notation.proofs.InTurn.{turn_named, turn_next, turn_out, turns_cons, turns_nil, turns_zero}

@@ -1,25 +1,25 @@
 -- The tokens of a rule are read as that rule. A body is read literal by literal: `Reads` says that the tokens x of a literal lead from what was read before to what
 -- is read then, `Chain` the same of several. Assumes nothing.
 use mathlib.Core.Path.{◌≡◌, refl, sym, ap, ◌∙◌, subst}
-use mathlib.Core.Bool.{Bool, true, false, cond, not, ◌&&◌}
+use mathlib.Core.Bool.{Bool, true, false, not, ◌&&◌}
 use mathlib.Core.List.{List, [], ◌∷◌, ◌++◌, map, append_assoc, append-nil}
-use Prim.Native.Nat.{ℕ, zero, suc, ◌+◌, ◌-◌, ◌≤◌, ◌<◌}
+use Prim.Native.Nat.{ℕ, zero, suc, ◌+◌, ◌≤◌, ◌<◌}
 use native.Mathlib.Omega.{arith}
-use borrow.Author.Tests.{lt-ltb, le-leb, lt-leb}
-use lib.Dec.{T, ltb, leb}
-use lib.IntN.{ℤ, pos, negsuc, nat_abs, neg_ℤ}
-use lib.ListN.{length, length-map, length-append, take, get_or}
+use borrow.Author.Tests.{lt-ltb, le-leb}
+use lib.Dec.{leb}
+use lib.IntN.{ℤ, negsuc, nat_abs}
+use lib.ListN.{length}
 use lib.Signed.{non_neg}
 use Rattle.meaning.specs.Program.{Aggregate}
 use Rattle.meaning.specs.declared.Function.{Function}
 use Rattle.meaning.specs.declared.Function.TheVariants.{Count, Sum, Min, Max}
-use Rattle.table.specs.Contents.{Each, Ascending, AggregateInRange, no_aggregate, aggregate_by}
-use Rattle.notation.specs.Tokens.{Token, number, word, neck, mark, end}
-use Rattle.notation.specs.Parser.{Parser, done, stop, next, ◌>>=◌, Result, made, failed, run, token, is_mark, last_from, member}
-use Rattle.notation.specs.Aggregates.{aggregate, function_in}
-use Rattle.notation.specs.Grammar.{Body, Headed, literal, literals, body, heads, head_from, barred, word_literal, literal_from, with_literal, with_aggregate, signed}
-use Rattle.notation.proofs.TokenLists.{joined_t, not_t, atom_t, literal_t, name_t, aggregate_t, rest_t, function_word}
-use Rattle.notation.proofs.Runs.{bind, check_run, last_snoc, snoc_long, member_then, member_run}
+use Rattle.table.specs.Contents.{Ascending, AggregateInRange}
+use Rattle.notation.specs.Tokens.{Token, number, word, mark}
+use Rattle.notation.specs.Parser.{◌>>=◌, made, run, token, is_mark, last_from}
+use Rattle.notation.specs.Aggregates.{aggregate}
+use Rattle.notation.specs.Grammar.{Body, literal, literals, body, heads, word_literal, literal_from, with_literal, with_aggregate, signed}
+use Rattle.notation.proofs.TokenLists.{joined_t, not_t, atom_t, rest_t, function_word}
+use Rattle.notation.proofs.Runs.{bind, check_run, last_snoc, snoc_long, member_then}
 use Rattle.notation.proofs.ReadAggregates.{aggregate_run, function_then}
 
 -- ---- the atoms of a head

@@ -1,13 +1,11 @@
 -- The tokens of a table are read as that table. Assumes nothing.
-use mathlib.Core.Path.{◌≡◌, refl, sym, ap, ◌∙◌, subst}
-use mathlib.Core.Bool.{Bool, true, false, cond, not, ◌&&◌}
+use mathlib.Core.Path.{◌≡◌, refl, sym, ap, ◌∙◌}
+use mathlib.Core.Bool.{true, false}
 use mathlib.Core.List.{List, [], ◌∷◌, ◌++◌, map, append_assoc, append-nil}
-use mathlib.Core.Option.{Option, none, some}
+use mathlib.Core.Option.{none, some}
 use Prim.Native.Nat.{ℕ, zero, suc, ◌+◌, ◌-◌, ◌≤◌, ◌<◌}
 use native.Mathlib.Omega.{arith}
 use borrow.Author.Tests.{lt-ltb, le-leb, eq-eqb}
-use lib.Dec.{leb}
-use lib.IntN.{ℤ, nat_abs}
 use lib.ListN.{length, length-map, length-append, take}
 use lib.Seq.{length-take-le}
 use Rattle.meaning.specs.Program.{Aggregate}
@@ -15,14 +13,14 @@ use Rattle.table.specs.Contents.{NumberedRule, Contents, Each, Ascending, Aggreg
 use Rattle.notation.specs.Notation as notation
 use Rattle.notation.specs.Notation.{turns, turns_all}
 use Rattle.notation.specs.Tokens.{Token, number, word, neck, mark, end}
-use Rattle.notation.specs.Parser.{Parser, done, next, ◌>>=◌, Result, made, run, token, is_mark, member, last_from}
+use Rattle.notation.specs.Parser.{◌>>=◌, made, run, token, is_mark}
 use Rattle.notation.specs.Aggregates.{aggregate}
-use Rattle.notation.specs.Grammar.{Body, Headed, Sofar, body, heads, head_from, rule_after, rule_from, with_rule, with_aggregate, numbered, atoms_given, name_given, statement, statements, table}
-use Rattle.notation.proofs.TokenLists.{joined_t, atom_t, literal_t, aggregate_t, rest_t, body_t, neck_t, rule_t, atoms_t, name_line_t, names_t, rule_line_t, rules_t, table_t}
+use Rattle.notation.specs.Grammar.{Body, Sofar, body, head_from, rule_from, with_rule, with_aggregate, numbered, atoms_given, name_given, statement, statements, table}
+use Rattle.notation.proofs.TokenLists.{joined_t, atom_t, literal_t, aggregate_t, body_t, neck_t, rule_t, names_t, rules_t, table_t}
 use Rattle.notation.proofs.Runs.{bind, check_run, snoc_long, member_then}
 use Rattle.notation.proofs.InTurn.{all_first, Does}
 use Rattle.notation.proofs.ReadAggregates.{aggregate_run, function_then}
-use Rattle.notation.proofs.ReadRules.{Reads, Chain, chain_append, body_of, heads_run, body_run, pos_chain, neg_chain}
+use Rattle.notation.proofs.ReadRules.{Chain, chain_append, body_of, heads_run, body_run, pos_chain, neg_chain}
 use Rattle.notation.proofs.ReadLiterals.{aggs_chain}
 
 -- ---- the head

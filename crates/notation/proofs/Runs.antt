@@ -1,14 +1,14 @@
 -- Reading with parsers one after another, and the tests of single tokens. Assumes nothing.
 use mathlib.Core.Path.{◌≡◌, refl, sym, ap, ◌∙◌, subst}
-use mathlib.Core.Bool.{Bool, true, false, ◌&&◌}
-use mathlib.Core.List.{List, [], ◌∷◌, ◌++◌, append_assoc, append-nil}
-use Prim.Native.Nat.{ℕ, zero, suc, ◌+◌, ◌≤◌, ◌<◌}
+use mathlib.Core.Bool.{Bool, true, false}
+use mathlib.Core.List.{List, [], ◌∷◌, ◌++◌}
+use Prim.Native.Nat.{ℕ, suc, ◌≤◌, ◌<◌}
 use native.Mathlib.Omega.{arith}
 use borrow.Author.Tests.{lt-ltb, le-leb}
-use lib.Dec.{T, ltb, leb}
+use lib.Dec.{T}
 use lib.ListN.{length, length-append}
 use Rattle.notation.specs.Tokens.{Token}
-use Rattle.notation.specs.Parser.{Why, outside, descent, too_many, Parser, done, stop, next, ◌>>=◌, Result, made, failed, run, check, last_from, member}
+use Rattle.notation.specs.Parser.{Why, Parser, done, stop, next, ◌>>=◌, Result, made, failed, run, check, last_from, member}
 
 -- ---- results taken apart
 

@@ -4,7 +4,7 @@ use mathlib.Core.Bool.{Bool, true, false, cond, not}
 use mathlib.Core.List.{List, [], ◌∷◌, ◌++◌, map}
 use Prim.Native.Nat.{ℕ, suc}
 use lib.Dec.{leb}
-use lib.IntN.{ℤ, pos, negsuc, nat_abs}
+use lib.IntN.{ℤ, negsuc, nat_abs}
 use lib.ListN.{take}
 use lib.Signed.{non_neg}
 use Rattle.meaning.specs.Program.{Element, Aggregate}
@@ -14,7 +14,7 @@ use Rattle.meaning.specs.declared.Comparison.{Comparison}
 use Rattle.meaning.specs.declared.Comparison.TheVariants.{Less, Greater}
 use Rattle.table.specs.Contents.{NumberedRule, Contents, aggregate_by}
 use Rattle.notation.specs.Notation.{some}
-use Rattle.notation.specs.Tokens.{Token, number, word, neck, mark, end}
+use Rattle.notation.specs.Tokens.{Token, number, word, neck, mark}
 
 -- ---- parts with a mark between them
 

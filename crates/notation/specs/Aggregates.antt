@@ -1,7 +1,7 @@
 -- An aggregate in 01's notation, from its tokens. Definitions only: to be believed.
 --   function_in       its first word;  aggregate top f: what follows it, up to the threshold
 -- Assumes nothing.
-use Rattle.std.specs.Prelude.{Bool, true, false, cond, List, [], ◌∷◌, ◌++◌, map, ℕ, zero, suc, leb, eqb, ℤ, pos, negsuc}
+use Rattle.std.specs.Prelude.{true, false, cond, List, [], ◌∷◌, ◌++◌, map, ℕ, zero, suc, leb, eqb, ℤ, pos, negsuc}
 use Rattle.std.proofs.Math.Option.{Option, none, some}
 use Rattle.meaning.specs.Foundedness.{same_list}
 use Rattle.meaning.specs.Program.{Element, Aggregate}

@@ -2,7 +2,7 @@
 --   aggregate, literals, heads, statement    the parts of a table; each number is tested where it is read
 --   table            the whole: aggregates that are written out get the next number
 -- Assumes nothing.
-use Rattle.std.specs.Prelude.{Bool, true, false, ◌&&◌, List, [], ◌∷◌, ◌++◌, map, ℕ, zero, suc, ◌+◌, leb, ltb, eqb, ℤ, pos, neg_ℤ, nat_abs, length}
+use Rattle.std.specs.Prelude.{Bool, true, false, ◌&&◌, List, [], ◌∷◌, ◌++◌, map, ℕ, zero, suc, leb, ltb, eqb, ℤ, pos, neg_ℤ, nat_abs, length}
 use Rattle.std.proofs.Math.Option.{Option, none, some}
 use Rattle.meaning.specs.Foundedness.{same_list}
 use Rattle.meaning.specs.Program.{Aggregate}

@@ -10,7 +10,7 @@
 --   named c                          the least number of names that does
 --   text_of c                         the text of a table with the contents c
 -- Assumes nothing.
-use Rattle.std.specs.Prelude.{Bool, true, false, not, cond, List, [], ◌∷◌, ◌++◌, map, ℕ, zero, suc, ◌+◌, ◌-◌, leb, eqb, ℤ, pos, negsuc, nat_abs, length, take}
+use Rattle.std.specs.Prelude.{Bool, true, false, not, cond, List, [], ◌∷◌, ◌++◌, map, ℕ, zero, suc, leb, eqb, ℤ, negsuc, nat_abs, length, take}
 use Rattle.std.specs.Int.Signed.{non_neg}
 use Rattle.meaning.specs.Program.{Element, Aggregate}
 use Rattle.meaning.specs.declared.Function.{Function}

@@ -9,8 +9,6 @@ use mathlib.Core.Option.{some}
 use mathlib.Core.List.{List}
 use Prim.Native.Nat.{ℕ, suc, ◌≤◌}
 use native.Mathlib.Omega.{arith}
-use lib.ListN.{length}
-use Rattle.meaning.specs.Lists.{◌∈◌}
 use Rattle.meaning.specs.Aggregates.{Atoms}
 use Rattle.results.specs.declared.Counts.{Counts}
 use Rattle.results.specs.declared.Solved.{Solved}
@@ -18,8 +16,8 @@ use Rattle.results.specs.declared.Solved.TheVariants as solved
 use Rattle.results.specs.Results.{Report, counts_of, report_of, refusal_report}
 use Rattle.levels.specs.Levels.{Levels}
 use Rattle.interpretation.specs.State.{Interpretation}
-use Rattle.search.specs.Search.{Problem, Result, answer, no_answer, limit, Branch, Outcome, Mode, jump, plain, start, solve}
-use Rattle.search.specs.Laws.{Dead, DeadBy, Laws}
+use Rattle.search.specs.Search.{Problem, Result, answer, no_answer, limit, Outcome, Mode, jump, plain, start, solve}
+use Rattle.search.specs.Laws.{DeadBy, Laws}
 use Rattle.search.proofs.Theorems as theorems
 use Rattle.search.proofs.Skips.{skips≤choices}
 use Rattle.search.proofs.Limit.{here}

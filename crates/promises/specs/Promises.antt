@@ -8,7 +8,7 @@
 --   Searching             demand 3: result, plan, choices and skips of the defined jumping search, beside the plain one with every limit from the call's on; and
 --                         request 11: the passes
 -- Assumes nothing.
-use Rattle.std.specs.Prelude.{◌≡◌, ◌≢◌, ◌⊎◌, List, ℕ, suc, ◌≤◌, length}
+use Rattle.std.specs.Prelude.{◌≡◌, ◌≢◌, List, ℕ, suc, ◌≤◌, length}
 use Rattle.std.proofs.Math.Option.{some}
 use Rattle.meaning.specs.Lists.{◌∈◌}
 use Rattle.meaning.specs.Aggregates.{Atoms}

@@ -7,12 +7,11 @@ use Prim.Native.Nat.{ℕ, suc, ◌+◌, ◌-◌, ◌≤◌, ◌<◌}
 use native.Mathlib.Omega.{arith}
 use lib.ListN.{get_or}
 use Rattle.meaning.specs.Lists.{Is}
-use Rattle.meaning.specs.Program.{In}
 use Rattle.meaning.specs.Dependency.{Chain, stay, go}
 use Rattle.meaning.proofs.Cond.{lt_case}
 use Rattle.meaning.proofs.Tools.{clash, chain_join}
 use Rattle.levels.specs.Levels.{Levels, union, only}
-use Rattle.reach.specs.Visits.{Part, Meeting, size, Visited, Reached, Led, Walked, Circle}
+use Rattle.reach.specs.Visits.{size, Visited, Reached, Led, Walked, Circle}
 use Rattle.reach.proofs.Putting.{only_i, only_e, more_here, more_old, more_e, size_lt, size_top}
 
 -- ---- one atom

@@ -1,9 +1,9 @@
 -- A member of a list, and an arc by a rule of an atom's list. Assumes nothing.
-use mathlib.Core.Path.{◌≡◌, refl, sym, ap, ◌∙◌, subst}
+use mathlib.Core.Path.{◌≡◌, refl, sym, ◌∙◌, subst}
 use mathlib.Core.Logic.{◌⊎◌, inl, inr, ◌≢◌}
-use mathlib.Core.Bool.{Bool, true, false, ◌||◌}
+use mathlib.Core.Bool.{Bool, true, false}
 use mathlib.Core.List.{List, [], ◌∷◌}
-use Prim.Native.Nat.{ℕ, zero, suc, ◌+◌, ◌<◌, ◌≤◌}
+use Prim.Native.Nat.{ℕ, zero, suc, ◌+◌, ◌<◌}
 use native.Mathlib.Omega.{arith}
 use lib.Dec.{eqb}
 use lib.IntN.{ℤ, pos, nat_abs}
@@ -15,7 +15,7 @@ use Rattle.meaning.specs.Dependency.{arc, added_arc, any_arc}
 use Rattle.meaning.proofs.Cond.{eq_case}
 use Rattle.meaning.proofs.Tools.{or_l, or_r}
 use Rattle.layout.specs.declared.Table.{Table}
-use Rattle.layout.specs.Layout.{atoms, part_at, pos_at, rule_at, program_of}
+use Rattle.layout.specs.Layout.{part_at, pos_at, rule_at, program_of}
 use Rattle.heads.specs.Heads.{places_of, with_head}
 use Rattle.reach.specs.Arcs.{arcs_of, targets, listed}
 use Rattle.reach.proofs.Graph.{arcs_by_head}

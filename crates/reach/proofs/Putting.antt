@@ -1,18 +1,17 @@
 -- Sets of atoms by their members, their size, and what putting an atom on the list makes of both. Assumes nothing.
 use mathlib.Core.Path.{◌≡◌, refl, sym, ap, ◌∙◌, subst}
 use mathlib.Core.Logic.{◌⊎◌, inl, inr, ◌≢◌}
-use mathlib.Core.Bool.{Bool, true, false, cond, ◌||◌}
+use mathlib.Core.Bool.{Bool, true, false, cond}
 use mathlib.Core.List.{List}
 use Prim.Native.Nat.{ℕ, zero, suc, ◌+◌, ◌-◌, ◌≤◌, ◌<◌}
 use native.Mathlib.Omega.{arith}
 use lib.ListN.{length, get_or, set, length-set}
 use lib.Seq.{get_or-set_same, get_or-set_other}
 use Rattle.meaning.specs.Lists.{Is}
-use Rattle.meaning.specs.Cond.{if_eq}
 use Rattle.meaning.proofs.Cond.{if_eq_yes, if_eq_no, eq_case, lt_case}
 use Rattle.meaning.proofs.Tools.{clash, or_e, or_l, or_r}
 use Rattle.levels.specs.Levels.{Levels, no_levels, union, only}
-use Rattle.reach.specs.Visits.{Part, size, within, Queue, Put}
+use Rattle.reach.specs.Visits.{Part, size, Queue, Put}
 
 -- ---- one atom alone, and one more
 

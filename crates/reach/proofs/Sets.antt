@@ -1,15 +1,12 @@
 -- Sets of atoms that grow by one member of a list at a time, from the last to the first. Assumes nothing.
 use mathlib.Core.Path.{◌≡◌, refl, sym, ap, ◌∙◌, fun_ext}
-use mathlib.Core.Logic.{◌⊎◌, inl, inr, ◌≢◌}
-use mathlib.Core.Bool.{Bool, true, false, cond, ◌&&◌, ◌||◌, or_assoc}
+use mathlib.Core.Bool.{Bool, true, false, cond, ◌||◌, or_assoc}
 use mathlib.Core.List.{List}
 use Prim.Native.Nat.{ℕ, ◌+◌, ◌-◌, ◌*◌, ◌≤◌, ◌<◌}
 use lib.Dec.{eqb}
 use lib.IntN.{ℤ, pos, nat_abs}
 use lib.ListN.{length, get_or, drop}
-use borrow.Author.Tests.{eq-eqb, ne_eqb}
 use Rattle.meaning.specs.Cond.{if_eq}
-use Rattle.meaning.proofs.Cond.{if_eq_yes, if_eq_no, eq_case}
 use Rattle.meaning.specs.Lists.{any, has}
 use Rattle.meaning.specs.Program.{Element}
 use Rattle.meaning.specs.Dependency.{occurs}

@@ -1,5 +1,5 @@
 -- The visit, one atom at a time: what holds of the marks and the list on the way, that it is kept, and what it comes to at the end. Assumes nothing.
-use mathlib.Core.Path.{◌≡◌, refl, sym, ap, ◌∙◌, subst}
+use mathlib.Core.Path.{◌≡◌, sym, ap, ◌∙◌, subst}
 use mathlib.Core.Logic.{◌⊎◌, inl, inr}
 use mathlib.Core.Bool.{Bool}
 use mathlib.Core.List.{List}

@@ -4,6 +4,7 @@
 // Memory: a list of 256 bytes and a mark of one bit for each atom, a few rows of 32 bytes besides.
 // Cost: a visit reads the rules of each atom that is reached, once for each atom of their heads.
 #![tactic(auto)]
+
 pub mod arcs;
 pub mod back;
 pub mod marks;

@@ -11,16 +11,16 @@ use mathlib.Core.Bool.{Bool, true, false, cond, ◌||◌}
 use mathlib.Core.Option.{Option, none, some}
 use mathlib.Core.List.Memᴰ
 use mathlib.Core.List.{List, [], ◌∷◌, ◌++◌}
-use Rattle.meaning.specs.Lists.{Is, ◌∈◌, has}
-use Rattle.meaning.specs.Program.{Element, Aggregate, Rule, Program}
-use Rattle.meaning.proofs.Tools.{clash, cases}
-use Rattle.levels.specs.Levels.{Levels, no_levels, union, highest}
-use Rattle.interpretation.specs.State.{Cell, undefined, defined, Defined}
+use Rattle.meaning.specs.Lists.{◌∈◌, has}
+use Rattle.meaning.specs.Program.{Element, Rule, Program}
+use Rattle.meaning.proofs.Tools.{clash}
+use Rattle.levels.specs.Levels.{Levels, union, highest}
+use Rattle.interpretation.specs.State.{Cell, defined, Defined}
 use Rattle.valuing.specs.Values.{Lit, atom_lit, agg_lit}
 use Rattle.valuing.specs.Settling.{settling_of}
 use Rattle.valuing.specs.Reasons.{reason_at, reasons_at, reason_of, reasons_of}
 use Rattle.valuing.proofs.Settling.{chosen_defined}
-use Rattle.steps.specs.Steps.{Work, Support, head_lits, body_lits, rule_reason, witness, add_support, support}
+use Rattle.steps.specs.Steps.{Work, head_lits, body_lits, rule_reason, witness, add_support, support}
 use Rattle.search.specs.Search.{Mode, jump, plain, target}
 use Rattle.reasons.specs.Whole.{Part, elements_reason, whole_of, wholes_of, joined_by, why_by}
 
@@ -53,6 +53,7 @@ element_in a r (d ∷ es) e (Memᴰ.head q) v k h l x =
     let p : e.atom ≡ d.atom = ap (λ (z : Element). z.atom) q in
     or_left (reason_at (a d.atom) (r d.atom) l) (elements_reason a r es l)
     (subst (λ (n : ℕ). reason_at (a n) (r n) l ≡ true) p (ap (λ (c : Cell). reason_at c (r e.atom) l) h ∙ x))
+element_in a r [] e x4 v k h l x = elim x4 [ ]
 element_in a r (d ∷ es) e (Memᴰ.tail m) v k h l x = or_right (reason_at (a d.atom) (r d.atom) l) (elements_reason a r es l) (element_in a r es e m v k h l x)
 
 -- atoms that are defined elements

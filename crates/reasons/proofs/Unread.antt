@@ -4,19 +4,16 @@
 use Prim.Native.Nat.{ℕ, zero, suc, ◌+◌, ◌-◌, ◌*◌, ◌<◌, ◌≤◌, max}
 use mathlib.Core.Path.{◌≡◌, refl, sym, ◌∙◌, ap}
 use mathlib.Core.Logic.{◌⊎◌, inl, inr}
-use mathlib.Core.Bool.{Bool, true, false, not}
+use mathlib.Core.Bool.{true, false, not}
 use mathlib.Core.Option.{Option, none, some}
 use mathlib.Core.List.{◌++◌}
 use Rattle.meaning.specs.Cond.{if_lt}
 use Rattle.meaning.proofs.Cond.{lt_case, if_lt_yes, if_lt_no}
 use Rattle.meaning.proofs.Tools.{clash}
-use Rattle.meaning.specs.Aggregates.{Atoms}
 use Rattle.levels.specs.Levels.{Levels, up_to}
-use Rattle.interpretation.specs.State.{Interpretation, lowest, true_atoms, with_cells}
-use Rattle.meaning.specs.Program.{Program}
-use Rattle.steps.specs.Steps.{Verdict, settled, conflict, is_settled, Propagated, propagate}
-use Rattle.steps.proofs.Indep.{same_cells, same_verdict}
-use Rattle.search.specs.Search.{Problem, Tested, passed, failed, exhausted, plain, limit, State, Outcome, Next, go, end, opened_reason, jumped_as, jumped_reason, target, branches, ended, go_back_by, choosing_by, spend, tested, choose, settle, propagated, turn, cont, run, start, solve}
+use Rattle.interpretation.specs.State.{lowest, true_atoms, with_cells}
+use Rattle.steps.specs.Steps.{Verdict, settled, conflict, is_settled}
+use Rattle.search.specs.Search.{Problem, Tested, passed, failed, exhausted, plain, limit, State, Outcome, Next, go, opened_reason, jumped_as, jumped_reason, branches, ended, go_back_by, choosing_by, spend, tested, choose, settle, propagated, turn, cont, run, start, solve}
 use Rattle.reasons.specs.Whole.{Propagation, SameValues, propagating_by}
 
 -- the same state with other reasons

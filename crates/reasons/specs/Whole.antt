@@ -5,7 +5,7 @@
 --   why_by          the reason of steps d and e, by any reasons of literals
 --   SameValues     two propagations that give atoms the same values, and meet a conflict at the same time, whatever reasons they keep
 -- Assumes nothing.
-use Rattle.std.specs.Prelude.{ℕ, ◌≡◌, Bool, true, cond, List, [], ◌∷◌}
+use Rattle.std.specs.Prelude.{ℕ, ◌≡◌, true, cond, List, [], ◌∷◌}
 use Rattle.std.proofs.Math.Option.{Option, none, some}
 use Rattle.meaning.specs.Lists.{has}
 use Rattle.meaning.specs.Program.{Element, Program}

@@ -1,7 +1,7 @@
 -- "If some atom is undefined and there is no conflict: at the limit, end with 'limit'": a search that ends with limit has come to a state whose propagation is
 -- settled, in which an atom is undefined, and whose choices are those that the limit allows. Assumes nothing.
 use Prim.Native.Nat.{ℕ, zero, suc, ◌≤◌, ◌<◌}
-use mathlib.Core.Path.{◌≡◌, refl, sym, ◌∙◌, ap, subst}
+use mathlib.Core.Path.{◌≡◌, refl, sym, ◌∙◌, ap}
 use mathlib.Core.Logic.{◌⊎◌, inl, inr}
 use mathlib.Core.Bool.{Bool, true, false}
 use mathlib.Core.Option.{Option, none, some}
@@ -13,7 +13,7 @@ use Rattle.meaning.proofs.Cond.{if_lt_yes, lt_case, some_inj}
 use Rattle.levels.specs.Levels.{Levels, up_to}
 use Rattle.interpretation.specs.State.{lowest, true_atoms}
 use Rattle.steps.specs.Steps.{Verdict, settled, conflict}
-use Rattle.search.specs.Search.{Problem, Mode, Result, limit, State, Outcome, Next, go, end, target, go_back, ended, choosing, spend, tested, choose, settle, propagated, turn, cont, run}
+use Rattle.search.specs.Search.{Problem, Mode, limit, State, Outcome, Next, go, end, target, go_back, ended, choosing, spend, tested, choose, settle, propagated, turn, cont, run}
 use Rattle.search.specs.Base.{verdict_of, base}
 
 -- some turns of the search lead to d

@@ -1,9 +1,9 @@
 -- For a loop that makes one turn after another: `Ends c o`, with some fuel the run from c ends with o. A loop's invariant is
 -- that whatever the present state ends with, the start ends with; at the loop's end that is what `solve` gives.
 -- Assumes nothing.
-use Prim.Native.Nat.{ℕ, zero, suc, ◌+◌, ◌*◌, ◌≤◌, ◌<◌}
-use mathlib.Core.Path.{◌≡◌, refl, sym, ◌∙◌, ap, subst}
-use mathlib.Core.Option.{Option, none, some}
+use Prim.Native.Nat.{ℕ, zero, suc}
+use mathlib.Core.Path.{◌≡◌, sym, ◌∙◌, ap}
+use mathlib.Core.Option.{some}
 use native.Mathlib.Omega.{arith}
 use Rattle.meaning.proofs.Cond.{some_inj}
 use Rattle.search.specs.Search.{Problem, Mode, State, Outcome, Next, go, end, turn, cont, run, start, solve}

@@ -5,9 +5,9 @@
 -- Assumes nothing.
 use Prim.Native.Nat.{ℕ, zero, suc, ◌+◌, ◌-◌, ◌*◌, ◌^◌, ◌≤◌, ◌<◌}
 use native.Mathlib.Omega.{arith}
-use mathlib.Core.Path.{◌≡◌, refl, sym, subst}
+use mathlib.Core.Path.{◌≡◌, refl, subst}
 use mathlib.Core.Logic.{◌⊎◌, inl, inr}
-use mathlib.Core.Bool.{Bool, not}
+use mathlib.Core.Bool.{not}
 use mathlib.Core.Option.{Option, none, some}
 use mathlib.Core.List.{[]}
 use Rattle.meaning.specs.Cond.{if_lt}
@@ -16,11 +16,11 @@ use Rattle.meaning.proofs.Cond.{if_lt_yes, if_lt_no, lt_case}
 use Rattle.levels.specs.Levels.{Levels, up_to}
 use Rattle.interpretation.specs.State.{Interpretation, lowest, true_atoms, with_cells}
 use Rattle.steps.specs.Steps.{Verdict, settled, conflict}
-use Rattle.search.specs.Search.{Problem, Tested, passed, failed, exhausted, spend, plain, limit, State, Outcome, Next, go, end, go_back_by, ended, choosing_by, tested, choose, settle, propagated, turn, start}
+use Rattle.search.specs.Search.{Problem, Tested, passed, failed, exhausted, spend, plain, limit, State, Next, go, end, go_back_by, ended, choosing_by, tested, choose, settle, propagated, turn, start}
 use Rattle.search.specs.Laws.{Laws}
 use Rattle.search.proofs.Parts.{lowest_some}
 use Rattle.search.proofs.Sound.{StateInv, GoodNext, turn_good, start_good}
-use Rattle.search.proofs.Unlimited.{room, room_power, Room, room_propagated, room_opened, room_back, Fits, FitsNext, fits_turn, start_fits}
+use Rattle.search.proofs.Unlimited.{room_power, Room, room_propagated, room_opened, room_back, Fits, FitsNext, fits_turn, start_fits}
 
 module _ (AS : Atoms → Type 0) (P : Problem) (L : Laws AS P) (quiet : (m : ℕ) (X : Atoms) → (P.test m X ≡ passed 0) ⊎ (P.test m X ≡ failed 0)) where
   abbrev pub enough : ℕ

@@ -58,6 +58,7 @@ pins_e (x ∷ l) q v e = at (λ f. pins_e l q v f) (eq_case q x.atom)
 pub pins_i : (pins : Pins) → Differ pins → (x : Pin) → x ∈ pins → pins_of pins x.atom ≡ some x.value
 unfolding pins_of
 pins_i (y ∷ l) D x (Memᴰ.head e) = if_eq_yes x.atom y.atom (some y.value) (pins_of l x.atom) (ap (λ (z : Pin). z.atom) e) ∙ ap (λ (z : Pin). some z.value) (sym e)
+pins_i [] D x x4 = elim x4 [ ]
 pins_i (y ∷ l) D x (Memᴰ.tail m) = if_eq_no x.atom y.atom (some y.value) (pins_of l x.atom) (λ h. D.0 x m (sym h)) ∙ pins_i l D.1 x m
 
 pub start_cells_lem : (pins : Pins) → cells_of pins ≡ (λ p. pinned_cell (pins_of pins p))

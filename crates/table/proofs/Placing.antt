@@ -13,7 +13,7 @@ use Rattle.results.specs.declared.Refusal.TheVariants.{Trailing}
 use Rattle.meaning.specs.Program.{Aggregate}
 use Rattle.table.specs.Roles.{count, Format, done, ◌>>=◌, Result, read, refused, run}
 use Rattle.table.specs.Contents.{RuleInRange, encode_aggregate, encode_rule}
-use Rattle.table.specs.Grammar.{one, times, aggregate, aggregates, rule, rules, table}
+use Rattle.table.specs.Grammar.{one, times, aggregate, aggregates, rule, rules}
 use Rattle.table.specs.Places.{got_of, part_of, no_starts, placed, no_places, places_from, unread, finished}
 use Rattle.table.specs.declared.Got.TheVariants as got
 use Rattle.table.specs.declared.Part.TheVariants as part

@@ -6,6 +6,7 @@
 // encoding and the program. `proofs/Theorem.antt`: accepted exactly if an encoding, and the place is the first fault. What later crates rely on is
 // `layout`'s `Laid`, which `proofs/Accepted.antt` shows of every accepted table.
 #![tactic(auto)]
+
 ghost use Rattle.std.specs.Prelude.{◌≡◌, drop};
 ghost use Rattle.table.specs.Roles.{run};
 ghost use Rattle.table.specs.Grammar.{rules};

@@ -1,0 +1,36 @@
+-- `literals::false_literal` meets its contract. Assumes nothing.
+use borrow.Author.Rules.{rules}
+use mathlib.Core.Path.{◌≡◌, refl, sym, ap, ◌∙◌}
+use mathlib.Core.Bool.{Bool, true, false}
+use Prim.Native.Nat.{ℕ, ◌+◌, ◌-◌, ◌*◌, ◌/◌, ◌≤◌, ◌<◌}
+use native.Mathlib.Omega.{arith}
+use lib.IntN.{ℤ, pos, nat_abs}
+use lib.ListN.{length, get_or, drop}
+use Rattle.interpretation.specs.View.{valued, cell_value}
+use Rattle.layout.specs.Layout.{pairs}
+use Rattle.valuing.specs.Values.{says_false, agg_lit, value}
+use Rattle.layout.specs.Layout.{literal_of}
+use Rattle.literals.specs.Scan.{literal_lits, first_from, first_false}
+use Rattle.literals.proofs.Walks.{walk_on, walk_false, walk_end}
+use Rattle.literals.proofs.false_literal.Goals as goal
+
+pub returns-then-refutes : goal.returns-then-refutes
+returns-then-refutes c =
+    let a = c.args in
+    sym (walk_false (literal_of a.t.now) agg_lit (valued a.values.now) a.l.now c.loop-k.k c.loop-k-test.true _ c.literal_value-v.ensures
+    (sym c.refutes.ensures ∙ c.if-refutes.true))
+    ∙ c.loop-k.invariant.1
+
+pub loop-k-preserved : goal.loop-k-preserved
+loop-k-preserved c =
+    let a = c.args in (
+      omega arith,
+      sym (walk_on (literal_of a.t.now) agg_lit (valued a.values.now) a.l.now c.loop-k.k c.loop-k-test.true _ c.literal_value-v.ensures
+          (sym c.refutes.ensures ∙ c.if-refutes.false))
+          ∙ c.loop-k.invariant.1,
+    )
+
+pub returns : goal.returns
+returns c =
+    let a = c.args in
+    sym (walk_end (literal_of a.t.now) agg_lit (valued a.values.now) a.l.now c.loop-k.k c.loop-k-test.false) ∙ c.loop-k.invariant.1

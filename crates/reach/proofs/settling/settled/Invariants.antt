@@ -1,0 +1,12 @@
+-- `reach::settling::settled` meets its contract. The invariant: what is settled so far is settled. Assumes nothing.
+use Rattle.layout.specs.Layout.{program_of}
+use Rattle.levels.specs.View.{row}
+use Rattle.reach.specs.Arcs.{arcs_of}
+use Rattle.reach.specs.Visits.{Settled}
+use Rattle.reach.proofs.settling.settled.Given as goal
+
+abbrev pub invariant-loop-left : goal.invariant-loop-left
+invariant-loop-left l = Settled (arcs_of l.added (program_of l.t l.tb)) (row l.all)
+
+abbrev pub decreases-loop-left : goal.decreases-loop-left
+decreases-loop-left l = l.left

@@ -1,0 +1,10 @@
+-- `reach::touching::touches` meets its contract: the rule at which it stops is one of the atom's list. Assumes nothing.
+use Prim.Native.Nat.{◌-◌, ◌≤◌}
+use lib.ListN.{length}
+use Rattle.reach.proofs.touching.touches.Given as goal
+
+abbrev pub invariant-loop-i : goal.invariant-loop-i
+invariant-loop-i l = l.i ≤ length l.l
+
+abbrev pub decreases-loop-i : goal.decreases-loop-i
+decreases-loop-i l = length l.l - l.i
