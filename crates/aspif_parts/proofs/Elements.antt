@@ -26,11 +26,10 @@ use Rattle.meaning.specs.declared.Comparison.TheVariants.{Less, Greater}
 use Rattle.layout.specs.Layout.{pairs, aggregate_at, AggregateLies}
 use Rattle.layout.proofs.Inside.{elements_in}
 use Rattle.table.specs.Contents.{Each}
-use Rattle.aspif.specs.Statements.{Signed, Body, normal, weight, Statement}
-use Rattle.aspif.specs.Writing.{with, bound_of, bound_body, weights_of, good, alone, barred, good_body, bodies_of, stating}
-use Rattle.aspif_parts.specs.Parts.{lines_text, literals_text, pairs_text, bound_by, passes_by, pass_of, test_of, bad_for_least, bad_for_most, bit_of, weight_by, weighed, weights_by, reached_body, barred_by, element_body, element_bodies, stating_all, element_of, AtomsFrom1}
+use Rattle.aspif.specs.Statements.{Body, normal}
+use Rattle.aspif.specs.Writing.{with, bound_of, bound_body, weights_of, good, alone, barred, good_body, bodies_of}
+use Rattle.aspif_parts.specs.Parts.{bound_by, passes_by, pass_of, test_of, bad_for_least, bad_for_most, bit_of, weights_by, reached_body, barred_by, element_body, element_bodies, element_of}
 use Rattle.aspif_parts.specs.declared.Test.{Test}
-use Rattle.aspif_parts.proofs.Texts.{literals_nil, literals_on, pairs_nil, pairs_on, lines_nil, lines_on}
 
 -- ---- one pair at a time
 

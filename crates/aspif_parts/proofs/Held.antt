@@ -1,5 +1,5 @@
 -- The rules and the aggregates of a table read in place, one by one. Assumes nothing.
-use mathlib.Core.Path.{◌≡◌, refl, sym, ap, ◌∙◌}
+use mathlib.Core.Path.{◌≡◌, refl, ap, ◌∙◌}
 use mathlib.Core.List.{List, [], ◌∷◌}
 use Prim.Native.Nat.{ℕ, zero, suc, ◌-◌, ◌≤◌, ◌<◌}
 use native.Mathlib.Nat.{le_of_suc-le-suc, not-suc-le-zero}
@@ -9,7 +9,6 @@ use lib.ListN.{length, get_or}
 use Rattle.meaning.specs.Program.{Aggregate}
 use Rattle.layout.specs.Layout.{part_at, aggs_at, past_rule, aggregate_at, past_aggregate, start_from}
 use Rattle.layout.specs.declared.Table.{Table}
-use Rattle.table.specs.Contents.{NumberedRule}
 use Rattle.aspif_parts.specs.Held.{numbered_at, numbered_from, aggregates_from, held_by}
 
 -- ---- the rules from index i on

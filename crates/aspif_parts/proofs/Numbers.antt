@@ -1,12 +1,11 @@
 -- The numbers given to the marks are the new atoms (02, Wish 6). Assumes nothing.
-use mathlib.Core.Path.{◌≡◌, refl, sym, ap, ◌∙◌, subst}
+use mathlib.Core.Path.{◌≡◌, refl, sym, ap, ◌∙◌}
 use mathlib.Core.Logic.{◌⊎◌, inl, inr}
 use mathlib.Core.Bool.{Bool, true, false, cond}
-use mathlib.Core.List.{List, [], ◌∷◌}
+use mathlib.Core.List.{List, ◌∷◌}
 use Prim.Native.Nat.{ℕ, zero, suc, ◌+◌, ◌-◌, ◌*◌, ◌≤◌, ◌<◌}
 use native.Mathlib.Nat.{eq-or-lt_of_le}
 use native.Mathlib.Omega.{arith}
-use lib.Dec.{eqb}
 use lib.IntN.{ℤ, pos, negsuc, nat_abs}
 use lib.ListN.{length, get_or, drop, replicate}
 use lib.Seq.{drop-cons}
@@ -15,7 +14,7 @@ use Rattle.meaning.specs.Lists.{Is, cons_if}
 use Rattle.meaning.proofs.Tools.{eq_i}
 use Rattle.layout.specs.Layout.{Laid}
 use Rattle.layout.specs.declared.Table.{Table}
-use Rattle.table.specs.Contents.{NumberedRule, Contents}
+use Rattle.table.specs.Contents.{NumberedRule}
 use Rattle.aspif.specs.Writing.{same_number, uses, used_from, used, place, new_atom}
 use Rattle.aspif_parts.specs.Held.{numbered_from, held_by}
 use Rattle.aspif_parts.specs.Uses.{place_of, mark_rules, atom_by, next_by, numbered_by, new_or_none, NewAtoms}

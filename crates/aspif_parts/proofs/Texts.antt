@@ -5,12 +5,12 @@ use mathlib.Core.List.{List, [], ◌∷◌, ◌++◌, map, append-nil, append_as
 use Prim.Native.Nat.{ℕ, zero, suc, ◌+◌, ◌≤◌, ◌<◌}
 use native.Mathlib.Numerals.{add-one}
 use native.Mathlib.Omega.{arith}
-use lib.IntN.{ℤ, pos, negsuc, nat_abs}
-use lib.ListN.{length, get_or, drop, drop_of_length-le, length-append, length-map}
+use lib.IntN.{ℤ, pos}
+use lib.ListN.{length, get_or, drop, drop_of_length-le}
 use lib.Seq.{drop-cons}
 use Rattle.text.specs.Line.{decimal, decimal_by}
-use Rattle.aspif.specs.Statements.{Signed, Body, normal, weight, Statement}
-use Rattle.aspif.specs.Writing.{with, stating}
+use Rattle.aspif.specs.Statements.{Signed, normal, weight, Statement}
+use Rattle.aspif.specs.Writing.{with}
 use Rattle.aspif.specs.Lines.{header, number_text, spaced, literal_number, pair_numbers, body_numbers, statement_text, statements_text, text_of}
 use Rattle.meaning.specs.Program.{Element}
 use Rattle.bytes_out.specs.Putting.{field_text, signed_text}

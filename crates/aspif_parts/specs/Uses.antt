@@ -4,7 +4,7 @@
 --   numbered_by   the free numbers from `next` on, given to the marked places; 0 for the others
 --   NewAtoms     what the numbers are to say: the new atom of each literal in use, and 0 of every other
 -- Assumes nothing.
-use Rattle.std.specs.Prelude.{◌≡◌, Bool, true, false, cond, List, [], ◌∷◌, ℕ, zero, suc, ◌+◌, ◌-◌, ◌*◌, ◌≤◌, eqb, ℤ, nat_abs, length, get_or, set, replicate}
+use Rattle.std.specs.Prelude.{◌≡◌, Bool, true, false, cond, List, [], ◌∷◌, ℕ, zero, suc, ◌+◌, ◌-◌, ◌*◌, ◌≤◌, ℤ, nat_abs, length, get_or, set, replicate}
 use Rattle.std.specs.Int.Signed.{non_neg}
 use Rattle.table.specs.Contents.{NumberedRule, Contents}
 use Rattle.aspif.specs.Writing.{uses, new_atom}

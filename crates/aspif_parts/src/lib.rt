@@ -1,6 +1,7 @@
 // What the writer of aspif is made of: tests of an element's value, the sign of an aggregate literal's new atom, and the place of a literal.
 // `specs/` has the definitions that the writer's functions follow, `proofs/` their laws. Meaning: crate `aspif`, `specs/Writing.antt`.
 #![tactic(auto)]
+
 ghost use Rattle.std.specs.Prelude.{◌≡◌, not, ◌≤◌, ◌<◌, nat_abs, pos, length, get_or};
 ghost use Rattle.std.specs.Bool.{beq};
 ghost use Rattle.std.specs.Int.Signed.{non_neg};

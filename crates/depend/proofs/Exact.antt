@@ -2,7 +2,7 @@
 -- is exactly if the program is free of both classes. For the solver: with `laid_inside` of `Inside`, a table that is not refused meets the
 -- hypotheses of "founded ⇔ answer set" and of the search's theorems.
 -- Assumes nothing.
-use mathlib.Core.Path.{◌≡◌, refl, sym, ap, ◌∙◌, subst}
+use mathlib.Core.Path.{◌≡◌, refl, ap, ◌∙◌, subst}
 use mathlib.Core.Logic.{◌⊎◌, inl, inr, ◌↔◌, ◌≢◌}
 use mathlib.Core.Bool.{Bool, true, false}
 use mathlib.Core.List.Memᴰ
@@ -13,8 +13,8 @@ use lib.IntN.{ℤ}
 use lib.ListN.{length, get_or}
 use Rattle.meaning.specs.Lists.{Is, ◌∈◌}
 use Rattle.meaning.specs.Program.{Rule, Program, AtomsIn}
-use Rattle.meaning.specs.Dependency.{Chain, HeadCycle, AggregateCycle, Free}
-use Rattle.meaning.specs.Cycles.{via, head_cycle, aggregate_cycle}
+use Rattle.meaning.specs.Dependency.{Chain, AggregateCycle, Free}
+use Rattle.meaning.specs.Cycles.{via, aggregate_cycle}
 use Rattle.meaning.proofs.Tools.{clash, via_chain, chain_via}
 use Rattle.meaning.proofs.Cycles.{head_cycle_lem, aggregate_cycle_lem}
 use Rattle.meaning.proofs.Cond.{lt_case}

@@ -1,7 +1,7 @@
 -- Names of circles, one atom after the other; at the end, equal names say exactly which atoms reach each other. Assumes nothing.
 use mathlib.Core.Path.{◌≡◌, refl, sym, ap, ◌∙◌, subst}
 use mathlib.Core.Logic.{◌⊎◌, inl, inr, ◌↔◌, ◌≢◌}
-use mathlib.Core.Bool.{Bool, true, false, cond, ◌&&◌}
+use mathlib.Core.Bool.{Bool, false, cond, ◌&&◌}
 use mathlib.Core.List.{List}
 use Prim.Native.Nat.{ℕ, suc, ◌+◌, ◌-◌, ◌≤◌, ◌<◌}
 use native.Mathlib.Omega.{arith}
@@ -12,7 +12,7 @@ use Rattle.meaning.specs.Lists.{Is}
 use Rattle.meaning.specs.Program.{Program, In, AtomsIn}
 use Rattle.meaning.specs.Dependency.{Chain, stay, go}
 use Rattle.meaning.specs.Cycles.{via}
-use Rattle.meaning.proofs.Cond.{eq_case, lt_case}
+use Rattle.meaning.proofs.Cond.{eq_case}
 use Rattle.meaning.proofs.Tools.{clash, cases, both, and_i, and_l, and_r, or_e, or_r, chain_join, via_chain, chain_via}
 use Rattle.levels.specs.Levels.{Levels, union}
 use Rattle.reach.specs.Arcs.{arcs_of}

@@ -1,22 +1,19 @@
 -- The tests of a rule by names are `meaning`'s; and where all atoms are settled, no rule passes them. Assumes nothing.
 use mathlib.Core.Path.{◌≡◌, refl, sym, ap, ◌∙◌}
-use mathlib.Core.Logic.{◌↔◌}
 use mathlib.Core.Bool.{Bool, true, false, not, ◌&&◌, ◌||◌, and_assoc}
 use mathlib.Core.List.Memᴰ
 use mathlib.Core.List.{List, [], ◌∷◌}
-use Prim.Native.Nat.{ℕ, suc, ◌≤◌, ◌<◌}
-use native.Mathlib.Omega.{arith}
+use Prim.Native.Nat.{ℕ, suc}
 use lib.Dec.{eqb}
 use Rattle.meaning.specs.Lists.{Is, ◌∈◌, any}
 use Rattle.meaning.specs.Program.{Element, Literal, Rule, Program, In, AtomsIn}
-use Rattle.meaning.specs.Dependency.{arc, added_arc, any_arc, Chain, stay, go, HeadCycle, AggregateCycle}
+use Rattle.meaning.specs.Dependency.{arc, added_arc, any_arc, stay, go, HeadCycle, AggregateCycle}
 use Rattle.meaning.specs.Cycles.{via, mutually, head_cycle, returns, aggregate_cycle}
 use Rattle.meaning.proofs.Tools.{or_r, chain_via}
 use Rattle.meaning.proofs.Cond.{if_lt_yes, if_lt_no}
 use Rattle.meaning.proofs.Rank.{added_i}
 use Rattle.meaning.proofs.Cycles.{head_cycle_lem, aggregate_cycle_lem}
 use Rattle.levels.specs.Levels.{Levels, up_to}
-use Rattle.reach.specs.Arcs.{arcs_of}
 use Rattle.reach.specs.Visits.{Part, Settled}
 use Rattle.reach.proofs.Inside.{below}
 use Rattle.reach.proofs.Graph.{arcs_low}

@@ -4,6 +4,7 @@
 // Cost: where a cycle of the kind can be, a few walks that settle the atoms on no cycle; then, for each circle of atoms that is left, one visit and a
 // walk back or a few; and a pass over the rules.
 #![tactic(auto)]
+
 ghost use Rattle.std.specs.Prelude.{◌≡◌, suc};
 ghost use Rattle.meaning.specs.Cycles.{head_cycle, aggregate_cycle};
 ghost use Rattle.layout.specs.Layout.{program_of, Laid};

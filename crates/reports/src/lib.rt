@@ -1,6 +1,7 @@
 // What the C entries are told of a result (01, "What comes back"): its kind, its numbers in a lent report, and the rounds and rules of an answer. The entries of
 // `dock` and `desk` share it. Meaning: `specs/Report.antt`, `specs/Whys.antt`.
 #![tactic(auto)]
+
 ghost use Rattle.std.specs.Prelude.{◌≡◌};
 ghost use Rattle.reports.specs.Report.{narrow, first_of, second_of, third_of, reported, with_third};
 ghost use Rattle.results.specs.Results.{kind_of};

@@ -1,7 +1,7 @@
 -- The demand and the reason of a rule depend on the values alone, and not on the levels kept for the atoms: so the code is lent the values.
 -- Assumes nothing.
 use Prim.Native.Nat.{ℕ}
-use mathlib.Core.Path.{◌≡◌, refl, sym, ap, ap₂, ◌∙◌}
+use mathlib.Core.Path.{◌≡◌, refl, ap₂, ◌∙◌}
 use mathlib.Core.List.{List, [], ◌∷◌, ◌++◌}
 use Rattle.meaning.specs.Program.{Rule}
 use Rattle.levels.specs.Levels.{Levels}

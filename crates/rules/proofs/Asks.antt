@@ -1,20 +1,19 @@
 -- What literals ask, in terms of whether one is false, how many are undefined, and the first of these; and what a list that is read in parts asks.
 -- Assumes nothing.
-use Prim.Native.Nat.{ℕ, zero, suc, ◌+◌, ◌≤◌, ◌<◌}
+use Prim.Native.Nat.{ℕ, zero, suc, ◌+◌}
 use native.Mathlib.Omega.{arith}
 use mathlib.Core.Path.{◌≡◌, refl, sym, ap, ◌∙◌}
-use mathlib.Core.Logic.{◌⊎◌, inl, inr}
 use mathlib.Core.Bool.{Bool, true, false, not, cond, ◌||◌}
 use mathlib.Core.Option.{Option, none, some}
 use mathlib.Core.List.Memᴰ
-use mathlib.Core.List.{List, [], ◌∷◌, ◌++◌, map}
-use Rattle.meaning.specs.Lists.{Is, ◌∈◌, any}
+use mathlib.Core.List.{List, [], ◌∷◌, ◌++◌}
+use Rattle.meaning.specs.Lists.{◌∈◌, any}
 use Rattle.meaning.proofs.Tools.{clash}
 use Rattle.interpretation.specs.State.{Cell, undefined, defined}
 use Rattle.interpretation.specs.View.{cell_value}
 use Rattle.interpretation.specs.declared.Value.{Value}
 use Rattle.interpretation.specs.declared.Value.TheVariants.{True, False, Undefined}
-use Rattle.valuing.specs.Values.{says_true, says_false, says_undefined, opposite, signed, Lit, atom_lit, agg_lit, value}
+use Rattle.valuing.specs.Values.{says_true, says_false, says_undefined, signed, Lit, atom_lit, agg_lit, value}
 use Rattle.steps.specs.Steps.{first_of, count_of}
 use Rattle.rules.specs.declared.Step.{Step}
 use Rattle.rules.specs.declared.Step.TheVariants.{Nothing, Conflict, Set}

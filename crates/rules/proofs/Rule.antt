@@ -3,29 +3,26 @@
 --   demand_parts   the demand by the four lists, as the code reads them
 --   demand_open    an atom that is to be set is undefined, and one of the rule's
 -- Assumes nothing.
-use Prim.Native.Nat.{ℕ, zero, suc, ◌+◌, ◌≤◌}
+use Prim.Native.Nat.{ℕ, zero, suc}
 use mathlib.Core.Path.{◌≡◌, refl, sym, ap, ap₂, ◌∙◌, subst}
 use mathlib.Core.Logic.{◌⊎◌, inl, inr}
-use mathlib.Core.Bool.{Bool, true, false, not, cond, ◌||◌}
+use mathlib.Core.Bool.{Bool, true, false, cond, ◌||◌}
 use mathlib.Core.Option.{Option, none, some}
 use mathlib.Core.List.Memᴰ
-use mathlib.Core.List.{List, [], ◌∷◌, ◌++◌, map}
+use mathlib.Core.List.{List, ◌++◌, map}
 use native.Mathlib.Omega.{arith}
-use Rattle.meaning.specs.Lists.{Is, ◌∈◌, any}
+use Rattle.meaning.specs.Lists.{◌∈◌, any}
 use Rattle.meaning.specs.Program.{Rule, Literal, In, RuleIn}
 use Rattle.levels.specs.Levels.{Levels}
-use Rattle.interpretation.specs.State.{Cell, undefined, defined}
-use Rattle.interpretation.specs.View.{cell_value}
-use Rattle.interpretation.specs.declared.Value.{Value}
-use Rattle.interpretation.specs.declared.Value.TheVariants.{True, False, Undefined}
-use Rattle.valuing.specs.Values.{says_true, says_false, says_undefined, opposite, signed, Lit, atom_lit, agg_lit, value}
-use Rattle.steps.specs.Steps.{head_lits, body_lits, Work, set, refuted, if_settled, first_of, count_of, is_t, is_f, is_u, set_lit, rule_reason, step_abc, holds_now, step_rule}
+use Rattle.interpretation.specs.State.{Cell, undefined}
+use Rattle.valuing.specs.Values.{Lit, atom_lit, agg_lit}
+use Rattle.steps.specs.Steps.{head_lits, body_lits, Work, if_settled, first_of, count_of, is_t, is_f, is_u, set_lit, rule_reason, step_abc, step_rule}
 use Rattle.steps.proofs.Lits.{map_e, InBody, is_pos, is_neg, is_agg, body_cases}
 use Rattle.literals.proofs.Together.{turned, any_opposite, count_opposite, first_opposite}
 use Rattle.rules.specs.declared.Step.{Step}
-use Rattle.rules.specs.declared.Step.TheVariants.{Nothing, Conflict, Set}
-use Rattle.rules.specs.Demand.{becomes_false, ask_of, together, asks, denied_lits, demand_of, did}
-use Rattle.rules.proofs.Asks.{together_nothing, together_conflict, asks_append, falsify, ask_by, falsify_both, asks_by, Settable, asks_set}
+use Rattle.rules.specs.declared.Step.TheVariants.{Set}
+use Rattle.rules.specs.Demand.{together, asks, denied_lits, demand_of, did}
+use Rattle.rules.proofs.Asks.{together_nothing, together_conflict, asks_append, falsify, ask_by, falsify_both, asks_by, asks_set}
 
 -- ---- what is to be set
 

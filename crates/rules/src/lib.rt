@@ -2,6 +2,7 @@
 // what the rule asks, and the reason for it. Meaning: `specs/Demand.antt`; laws for callers' proofs: `proofs/Rule.antt` and `proofs/Alone.antt`.
 // Nothing here writes.
 #![tactic(auto)]
+
 ghost use Rattle.std.specs.Prelude.{◌≡◌, Bool, false, not, ◌++◌, ◌≤◌, length};
 ghost use Rattle.levels.specs.View.{row, rows};
 ghost use Rattle.interpretation.specs.View.{valued};

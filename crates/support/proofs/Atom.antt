@@ -4,10 +4,9 @@
 --   sole_lies        the rule that alone supports lies in the table;  sole-sets: there is an atom that step e sets
 --   ask-alone, blame-alone   both depend on the values alone
 -- Assumes nothing.
-use Prim.Native.Nat.{ℕ, zero, suc, ◌<◌}
+use Prim.Native.Nat.{ℕ, suc, ◌<◌}
 use native.Mathlib.Omega.{arith}
 use mathlib.Core.Path.{◌≡◌, refl, sym, ap, ◌∙◌, subst, fun_ext}
-use mathlib.Core.Logic.{◌⊎◌, inl, inr}
 use mathlib.Core.Bool.{Bool, true, false, cond, ◌&&◌}
 use mathlib.Core.Option.{Option, none, some}
 use mathlib.Core.List.{List, [], ◌∷◌, map}
@@ -26,7 +25,7 @@ use Rattle.layout.specs.Layout.{rule_at, RuleLies, program_of, Laid}
 use Rattle.heads.specs.Heads.{places_of, with_head, Part}
 use Rattle.heads.proofs.Laws.{places_lie, with_lie, rules_at_lem}
 use Rattle.layout.specs.declared.Table.{Table}
-use Rattle.valuing.specs.Values.{Lit, value}
+use Rattle.valuing.specs.Values.{Lit}
 use Rattle.valuing.specs.Reasons.{reason_of}
 use Rattle.literals.proofs.Alone.{value_alone, reason_alone}
 use Rattle.steps.specs.Steps.{Verdict, settled, Work, set, refuted, if_settled, witness, Support, add_support, support, step_e, step_d, step_true, step_de, step_atom}

@@ -8,17 +8,17 @@ use mathlib.Core.Bool.{Bool, true, false, cond}
 use mathlib.Core.Option.{some}
 use mathlib.Core.List.Memᴰ
 use mathlib.Core.List.{List, [], ◌∷◌}
-use Rattle.meaning.specs.Lists.{Is, ◌∈◌}
+use Rattle.meaning.specs.Lists.{◌∈◌}
 use Rattle.meaning.specs.Cond.{if_eq}
 use Rattle.meaning.specs.Program.{Rule, In, RuleIn}
 use Rattle.meaning.proofs.Cond.{if_eq_yes, if_eq_no, eq_case}
 use Rattle.meaning.proofs.Tools.{clash}
 use Rattle.levels.specs.Levels.{Levels}
 use Rattle.interpretation.specs.State.{Cell, undefined, defined}
-use Rattle.interpretation.specs.View.{bool_value, cell_value, cells, valued}
+use Rattle.interpretation.specs.View.{cell_value, cells, valued}
 use Rattle.interpretation.specs.declared.Record.{Record}
 use Rattle.interpretation.specs.declared.Value.{Value}
-use Rattle.interpretation.specs.declared.Value.TheVariants.{True, False, Undefined}
+use Rattle.interpretation.specs.declared.Value.TheVariants.{Undefined}
 use Rattle.interpretation.specs.declared.Choice.{Choice}
 use Rattle.interpretation.specs.declared.Choice.TheVariants as choice
 use Rattle.interpretation.proofs.Laws.{value_alone}

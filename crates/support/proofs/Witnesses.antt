@@ -3,7 +3,7 @@
 --   witness_tells   it stands for the rule's witness
 --   supports-at, blamed-at, witness-atom, witness-literal   what follows of support, of the reason, and of the ranges of atom and index
 -- Assumes nothing.
-use Prim.Native.Nat.{ℕ, zero, suc, ◌<◌}
+use Prim.Native.Nat.{ℕ, ◌<◌}
 use native.Mathlib.Omega.{arith}
 use mathlib.Core.Path.{◌≡◌, refl, sym, ap, ◌∙◌, subst}
 use mathlib.Core.Bool.{Bool, true, false, cond, not, ◌&&◌}
@@ -14,7 +14,7 @@ use lib.Dec.{eqb}
 use lib.IntN.{ℤ, pos}
 use lib.ListN.{length, get_or}
 use Rattle.meaning.specs.Lists.{◌∈◌, has}
-use Rattle.meaning.specs.Program.{Rule, In, RuleIn}
+use Rattle.meaning.specs.Program.{In, RuleIn}
 use Rattle.levels.specs.Levels.{Levels, union}
 use Rattle.interpretation.specs.State.{Cell}
 use Rattle.interpretation.specs.View.{cell_value}
@@ -25,7 +25,7 @@ use Rattle.interpretation.specs.declared.Choice.TheVariants as choice
 use Rattle.layout.specs.Layout.{atoms, part_at, pos_at, neg_at, aggs_at, literal_of, rule_at}
 use Rattle.valuing.specs.Values.{says_true, says_false, opposite, Lit, atom_lit, agg_lit, value}
 use Rattle.valuing.specs.Reasons.{reason_at, reason_of}
-use Rattle.steps.specs.Steps.{head_lits, body_lits, first_of, is_other, or_else}
+use Rattle.steps.specs.Steps.{body_lits, first_of, is_other, or_else}
 use Rattle.literals.specs.declared.First.{First}
 use Rattle.literals.specs.declared.First.TheVariants.{At, Nothing}
 use Rattle.literals.specs.Scan.{literal_lits, first_false}

@@ -2,6 +2,7 @@
 // whether rules support the atom, what follows, and why. Meaning: `specs/Asking.antt`; laws for callers' proofs: `proofs/Atom.antt`,
 // `proofs/Forcing.antt`. Nothing here writes.
 #![tactic(auto)]
+
 mod atoms;
 
 ghost use Rattle.std.specs.Prelude.{◌≡◌, ◌≤◌, ◌<◌, length, true};

@@ -1,0 +1,22 @@
+-- `depend::cycles::literal_reaches` meets its contract. The invariant: found is whether an aggregate literal from index i on passes. Assumes nothing.
+use mathlib.Core.Path.{◌≡◌}
+use mathlib.Core.Bool.{Bool}
+use mathlib.Core.List.{List, map}
+use Prim.Native.Nat.{ℕ, ◌≤◌}
+use lib.ListN.{length, drop}
+use Rattle.meaning.specs.Lists.{any}
+use Rattle.meaning.specs.Program.{Literal}
+use Rattle.layout.specs.Layout.{literal_of}
+use Rattle.depend.specs.Circles.{alike}
+use Rattle.depend.specs.Cycles.{returning}
+use Rattle.depend.proofs.cycles.literal_reaches.Given as goal
+
+-- the test of a literal
+abbrev pub passes : List ℕ → ℕ → Literal → Bool
+passes names p = λ u. returning (alike names) p u.aggregate.elements
+
+abbrev pub invariant-loop-i : goal.invariant-loop-i
+invariant-loop-i l = (l.i ≤ length l.l) × (l.found ≡ any (passes l.names l.p) (map (literal_of l.t) (drop l.i l.l)))
+
+abbrev pub decreases-loop-i : goal.decreases-loop-i
+decreases-loop-i l = l.i
