@@ -1,8 +1,8 @@
 -- The lines of all new atoms, one aggregate at a time. Assumes nothing.
 use mathlib.Core.Path.{◌≡◌, refl, sym, ap, ◌∙◌}
 use mathlib.Core.Bool.{Bool, true, false, cond}
-use mathlib.Core.List.{List, [], ◌∷◌, ◌++◌, append_assoc}
-use Prim.Native.Nat.{ℕ, zero, suc, ◌+◌, ◌-◌, ◌*◌, ◌≤◌, ◌<◌}
+use mathlib.Core.List.{List, [], ◌++◌}
+use Prim.Native.Nat.{ℕ, suc, ◌+◌, ◌-◌, ◌*◌, ◌≤◌, ◌<◌}
 use native.Mathlib.Omega.{arith}
 use lib.IntN.{ℤ, pos, negsuc, nat_abs}
 use lib.ListN.{length, get_or}
@@ -10,7 +10,7 @@ use Rattle.meaning.specs.Lists.{cons_if}
 use Rattle.meaning.specs.Program.{Aggregate}
 use Rattle.layout.specs.Layout.{aggregate_at, start_from, AggregateLies}
 use Rattle.layout.specs.declared.Table.{Table}
-use Rattle.table.specs.Contents.{NumberedRule, Contents, no_aggregate, aggregate_by}
+use Rattle.table.specs.Contents.{Contents, no_aggregate}
 use Rattle.aspif.specs.Writing.{uses, used_from, used, new_atom, bodies_of, defining, defining_all}
 use Rattle.aspif_parts.specs.Held.{held_by}
 use Rattle.aspif_parts.specs.Uses.{place_of, new_or_none, NewAtoms}

@@ -1,6 +1,7 @@
 // The lines that give a new atom its value (02, Wish 6): "Sum and count become weight bodies"; "Min and max become several rules, and no element
 // must still mean no value".
 #![tactic(auto)]
+
 ghost use Rattle.std.specs.Prelude.{◌≡◌, true, map, ◌++◌, [], ◌∷◌, ◌+◌, ◌≤◌, ◌<◌, ◌*◌, length};
 ghost use Rattle.meaning.specs.Lists.{keep};
 ghost use Rattle.meaning.specs.declared.Comparison.TheVariants.{Greater};

@@ -1,23 +1,22 @@
 -- The body of a rule by its parts, and the rules one by one. Assumes nothing.
-use mathlib.Core.Path.{◌≡◌, refl, sym, ap, ◌∙◌}
-use mathlib.Core.Bool.{Bool, true, false, ◌||◌}
+use mathlib.Core.Path.{◌≡◌, sym, ap, ◌∙◌}
+use mathlib.Core.Bool.{true, false}
 use mathlib.Core.List.{List, [], ◌∷◌, ◌++◌, map}
-use Prim.Native.Nat.{ℕ, zero, suc, ◌+◌, ◌-◌, ◌≤◌, ◌<◌}
+use Prim.Native.Nat.{ℕ, ◌+◌, ◌-◌, ◌≤◌, ◌<◌}
 use native.Mathlib.Omega.{arith}
-use lib.IntN.{ℤ, nat_abs}
-use lib.ListN.{length, take, drop, length-append, length-map, length-drop}
+use lib.IntN.{ℤ}
+use lib.ListN.{length, drop, length-append, length-map, length-drop}
 use lib.Seq.{length-take-le}
 use Rattle.meaning.specs.Lists.{Is, any}
 use Rattle.meaning.proofs.Tools.{or_l, or_r}
-use Rattle.layout.specs.Layout.{nat_at, atoms, part_at, past_at, pos_at, aggs_at, past_rule}
-use Rattle.layout.specs.declared.Table.{Table}
+use Rattle.layout.specs.Layout.{nat_at, atoms, part_at, past_at, aggs_at, past_rule}
 use Rattle.table.specs.Contents.{NumberedRule, Contents}
 use Rattle.aspif.specs.Statements.{Signed, normal}
-use Rattle.aspif.specs.Writing.{same_number, uses, with, stated_literal, stated}
+use Rattle.aspif.specs.Writing.{same_number, uses, with, stated}
 use Rattle.bytes_out.specs.Putting.{field_text}
 use Rattle.aspif_parts.specs.Held.{numbered_at, numbered_from}
 use Rattle.aspif_parts.specs.Parts.{line_text, lines_text, head_text, literals_text, body_text, stated_body}
-use Rattle.aspif_parts.proofs.Held.{numbered_on, numbered_none, numbered_aggs}
+use Rattle.aspif_parts.proofs.Held.{numbered_on, numbered_none}
 use Rattle.aspif_parts.proofs.Texts.{literals_append, normal_parts, line_parts, lines_cons, lines_nil}
 
 -- a list in the table is as long as its count says

@@ -1,5 +1,5 @@
 -- An aggregate literal by its new atom is what the definition states. Assumes nothing.
-use mathlib.Core.Path.{◌≡◌, refl, sym, ap, ◌∙◌, subst}
+use mathlib.Core.Path.{◌≡◌, refl, sym, ap, ◌∙◌}
 use mathlib.Core.Bool.{Bool, true, false, not, cond, beq}
 use mathlib.Core.List.{List, [], ◌∷◌}
 use Prim.Native.Nat.{ℕ, zero, suc, ◌+◌, ◌-◌, ◌≤◌, ◌<◌}
@@ -14,7 +14,7 @@ use Rattle.meaning.proofs.Tools.{eq_i, or_l, or_r}
 use Rattle.layout.specs.Layout.{nat_at, function_by, comparison_by, aggregate_at, start_from}
 use Rattle.layout.specs.declared.Table.{Table}
 use Rattle.table.specs.Contents.{no_aggregate}
-use Rattle.aspif.specs.Writing.{same_number, uses, turned, straight, with, stated_literal, new_atom}
+use Rattle.aspif.specs.Writing.{same_number, uses, turned, straight, stated_literal, new_atom}
 use Rattle.bytes_out.specs.Putting.{signed_text}
 use Rattle.aspif_parts.specs.Held.{held_by}
 use Rattle.aspif_parts.specs.Uses.{place_of, new_or_none, NewAtoms}

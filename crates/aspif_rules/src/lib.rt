@@ -1,5 +1,6 @@
 // The rules of a table as lines: the head, then the positive atoms, the negated ones and the aggregate literals by their new atoms.
 #![tactic(auto)]
+
 ghost use Rattle.std.specs.Prelude.{◌≡◌, not, map, ◌++◌, [], ◌∷◌, ◌+◌, ◌≤◌, ◌<◌, pos, length, get_or};
 ghost use Rattle.std.specs.Bool.{beq};
 ghost use Rattle.layout.specs.Layout as L;

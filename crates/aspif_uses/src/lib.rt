@@ -1,6 +1,7 @@
 // Which aggregate literals are in use, and their new atoms (02, Wish 6: "a new atom above N for each aggregate literal in use"). Aggregate j has
 // place 2 (j - 1) and its negation the next: the places are in the order in which new atoms are numbered. Meaning: `specs/Uses.antt`.
 #![tactic(auto)]
+
 ghost use Rattle.std.specs.Prelude.{◌≡◌, suc, ◌≤◌, ◌<◌, replicate};
 ghost use Rattle.layout.specs.Layout.{Laid, Members};
 ghost use Rattle.aspif_parts.specs.Held.{numbered_from, held_by};

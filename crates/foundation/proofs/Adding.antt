@@ -1,12 +1,12 @@
 -- What a rule could add: the atom p exactly where the rule supports p, once its positive atoms are true.
 -- Assumes nothing.
-use Prim.Native.Nat.{ℕ, zero, suc, ◌≤◌, ◌<◌}
+use Prim.Native.Nat.{ℕ, zero, suc, ◌<◌}
 use native.Mathlib.Omega.{arith}
 use mathlib.Core.Path.{◌≡◌, refl, sym, ap, ap₂, subst, ◌∙◌}
 use mathlib.Core.Logic.{◌⊎◌, inl, inr}
-use mathlib.Core.Bool.{Bool, true, false, not, ◌&&◌, ◌||◌}
+use mathlib.Core.Bool.{Bool, true, false, not, ◌&&◌}
 use mathlib.Core.List.Memᴰ
-use mathlib.Core.List.{List, [], ◌∷◌, ◌++◌, map}
+use mathlib.Core.List.{List, [], ◌∷◌, map}
 use lib.Dec.{eqb}
 use lib.ListN.{length, length-map, get_or, get_or-map}
 use Rattle.meaning.specs.Lists.{Is, ◌∈◌, all, any}
@@ -15,24 +15,21 @@ use Rattle.meaning.specs.Program.{Rule, Literal, RuleIn}
 use Rattle.meaning.specs.Answers.{body}
 use Rattle.meaning.specs.Foundedness.{supports}
 use Rattle.meaning.proofs.Tools.{clash, cases, not_is, is_not_lem, and_i, and_l, and_r, or_l, or_r, or_e, eq, eq_i, all_at, all_i, any_i}
-use Rattle.meaning.proofs.Meaning.{BodyTrue, body_i, body_e, Only, supports_i, supports_body, supports_only}
+use Rattle.meaning.proofs.Meaning.{body_i, body_e, Only, supports_i, supports_body, supports_only}
 use Rattle.interpretation.specs.State.{Cell, undefined, defined, truth_of, true_atoms, AllDefined}
 use Rattle.interpretation.specs.View.{cell_value}
-use Rattle.interpretation.specs.declared.Value.{Value}
-use Rattle.interpretation.specs.declared.Value.TheVariants.{True, False, Undefined}
-use Rattle.valuing.specs.Values.{says_true, says_false, opposite, Lit, atom_lit, agg_lit, value, true_in}
-use Rattle.steps.specs.Steps.{body_lits}
+use Rattle.interpretation.specs.declared.Value.TheVariants.{False}
+use Rattle.valuing.specs.Values.{says_false, opposite, Lit, atom_lit, agg_lit, value, true_in}
 use Rattle.steps.proofs.Lits.{map_i}
 use Rattle.literals.specs.declared.First.{First}
 use Rattle.literals.specs.declared.First.TheVariants as first
 use Rattle.literals.specs.Scan.{first_false}
-use Rattle.literals.proofs.Scans.{is_false, IsFirst, IsNone, says_at, says_nothing}
-use Rattle.rules.specs.declared.Step.{Step}
-use Rattle.rules.specs.Demand.{together, asks, is_conflict}
+use Rattle.literals.proofs.Scans.{is_false, says_at, says_nothing}
+use Rattle.rules.specs.Demand.{together, is_conflict}
 use Rattle.foundation.specs.declared.Adds.{Adds}
 use Rattle.foundation.specs.declared.Adds.TheVariants.{Nothing, Atom}
 use Rattle.foundation.specs.Walk.{fits, add_if, sole_by, sole_of, rest_true, could_by, could_of}
-use Rattle.foundation.proofs.Decided.{true_at, Decides, decides_body, ask_bool, asks_decided, ask_conflict}
+use Rattle.foundation.proofs.Decided.{true_at, decides_body, ask_bool, asks_decided, ask_conflict}
 
 -- ---- small facts
 

@@ -1,7 +1,7 @@
 -- Where all atoms are defined, every literal of a rule is true or false, as it is in the set of the true atoms; so a rule asks for a conflict
 -- exactly where it does not hold.
 -- Assumes nothing.
-use Prim.Native.Nat.{ℕ, zero, suc, ◌≤◌, ◌<◌}
+use Prim.Native.Nat.{ℕ, zero, suc}
 use native.Mathlib.Omega.{arith}
 use mathlib.Core.Path.{◌≡◌, refl, sym, ap, ap₂, ◌∙◌}
 use mathlib.Core.Logic.{◌⊎◌, inl, inr}
@@ -10,21 +10,21 @@ use mathlib.Core.List.Memᴰ
 use mathlib.Core.List.{List, [], ◌∷◌, ◌++◌, map}
 use Rattle.meaning.specs.Lists.{Is, ◌∈◌, all, any}
 use Rattle.meaning.specs.Aggregates.{Atoms}
-use Rattle.meaning.specs.Program.{Rule, Program, Literal, Element, In, RuleIn, AtomsIn}
-use Rattle.meaning.specs.Answers.{literal, body, holds, model}
-use Rattle.meaning.proofs.Tools.{clash, both, all_at, all_i, cases}
+use Rattle.meaning.specs.Program.{Rule, Literal, Element, In, RuleIn}
+use Rattle.meaning.specs.Answers.{body, holds}
+use Rattle.meaning.proofs.Tools.{both, all_at, all_i}
 use Rattle.meaning.proofs.Cond.{if_lt_yes}
-use Rattle.interpretation.specs.State.{Cell, undefined, defined, truth_of, true_atoms, Defined, AllDefined}
+use Rattle.interpretation.specs.State.{Cell, truth_of, true_atoms, AllDefined}
 use Rattle.interpretation.specs.View.{bool_value, cell_value}
 use Rattle.interpretation.specs.declared.Value.{Value}
 use Rattle.interpretation.specs.declared.Value.TheVariants.{True, False, Undefined}
-use Rattle.valuing.specs.Values.{opposite, signed, signed_bool, Lit, atom_lit, agg_lit, value, literal_value, true_in}
+use Rattle.valuing.specs.Values.{opposite, Lit, atom_lit, agg_lit, value, literal_value, true_in}
 use Rattle.valuing.specs.Exact.{Completes}
 use Rattle.valuing.proofs.Exact.{literal_right, literal_decided}
-use Rattle.steps.specs.Steps.{head_lits, body_lits}
+use Rattle.steps.specs.Steps.{body_lits}
 use Rattle.steps.proofs.Lits.{map_e, InBody, is_pos, is_neg, is_agg, body_cases, body_of, of_body}
 use Rattle.rules.specs.declared.Step.{Step}
-use Rattle.rules.specs.declared.Step.TheVariants.{Nothing, Conflict, Set}
+use Rattle.rules.specs.declared.Step.TheVariants.{Nothing, Conflict}
 use Rattle.rules.specs.Demand.{ask_of, together, asks, denied_lits, demand_of, is_conflict}
 use Rattle.rules.proofs.Asks.{asks_nil, asks_cons}
 

@@ -1,22 +1,21 @@
 -- The definitions at a rule of the table, as the code reads its four lists.
 -- Assumes nothing.
-use Prim.Native.Nat.{ℕ, ◌≤◌, ◌<◌}
+use Prim.Native.Nat.{ℕ, ◌<◌}
 use native.Mathlib.Omega.{arith}
-use mathlib.Core.Path.{◌≡◌, refl, sym, ap, ◌∙◌}
-use mathlib.Core.Bool.{Bool, true, false}
+use mathlib.Core.Path.{◌≡◌, refl, ap, ◌∙◌}
+use mathlib.Core.Bool.{false}
 use mathlib.Core.List.{List}
 use lib.IntN.{ℤ, pos, nat_abs}
 use lib.ListN.{length, get_or, get_or-map}
-use Rattle.meaning.specs.Lists.{Is, all}
+use Rattle.meaning.specs.Lists.{all}
 use Rattle.interpretation.specs.State.{Cell}
 use Rattle.valuing.specs.Values.{atom_lit}
 use Rattle.layout.specs.Layout.{atoms, part_at, neg_at, aggs_at, rule_at}
 use Rattle.literals.specs.declared.First.TheVariants as first
 use Rattle.literals.specs.Scan.{atom_lits, literal_lits, first_false}
-use Rattle.literals.proofs.Scans.{IsFirst, says_at}
+use Rattle.literals.proofs.Scans.{says_at}
 use Rattle.literals.proofs.Together.{atoms_length}
 use Rattle.rules.specs.Demand.{together, asks, is_conflict}
-use Rattle.foundation.specs.declared.Adds.{Adds}
 use Rattle.foundation.specs.declared.Adds.TheVariants.{Nothing, Atom}
 use Rattle.foundation.specs.Walk.{fits, add_if, sole_by, sole_of, rest_true, could_by, could_of}
 

@@ -3,7 +3,7 @@
 use Prim.Native.Nat.{ℕ, zero, suc, ◌+◌, ◌-◌, ◌≤◌, ◌<◌}
 use native.Mathlib.Omega.{arith}
 use native.Mathlib.Numerals.{add-one}
-use mathlib.Core.Path.{◌≡◌, refl, sym, ap, ap₂, ◌∙◌, fun_ext}
+use mathlib.Core.Path.{◌≡◌, refl, sym, ap, ◌∙◌, fun_ext}
 use mathlib.Core.Logic.{◌⊎◌, inl, inr, ◌≢◌}
 use mathlib.Core.Bool.{Bool, true, false, not, ◌&&◌, ◌||◌}
 use mathlib.Core.List.{List, [], ◌∷◌, ◌++◌, append-nil}
@@ -11,15 +11,12 @@ use lib.Dec.{eqb}
 use lib.IntN.{ℤ, pos, nat_abs}
 use lib.ListN.{length, get_or, set, take, drop, drop_of_length-le, replicate, get_or-replicate, get_or-eq_default, length-replicate}
 use lib.Seq.{drop-cons, get_or-set_same, get_or-set_other, take-suc-set, append_snoc, length-take-le, get_or-take, take-set-le, take-set-lt, drop-set-lt}
-use Rattle.meaning.specs.Cond.{if_eq}
-use Rattle.meaning.specs.Lists.{Is, all}
-use Rattle.meaning.specs.Aggregates.{Atoms}
-use Rattle.meaning.proofs.Tools.{cases, eq, eq_i, or_r, contra}
+use Rattle.meaning.specs.Lists.{all}
+use Rattle.meaning.proofs.Tools.{eq, eq_i, or_r, contra}
 use Rattle.meaning.proofs.Cond.{if_eq_yes, if_eq_no, eq_case, lt_case}
 use Rattle.meaning.specs.Foundedness.{atoms_to}
 use Rattle.interpretation.specs.State.{Cell, undefined, defined, truth_of}
 use Rattle.interpretation.specs.View.{cell_value}
-use Rattle.interpretation.specs.declared.Value.{Value}
 use Rattle.valuing.specs.Values.{says_true}
 use Rattle.layout.specs.Layout.{atoms}
 use Rattle.foundation.specs.Walk.{marked, fits, Stands, with_atom}

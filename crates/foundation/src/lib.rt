@@ -5,6 +5,7 @@
 // atom's mark. Meaning: crate `meaning`; how the candidates are walked: `specs/Walk.antt`. Memory: a word of 32 bits for each rule (1,024 at most), a byte
 // for each atom (256 at most).
 #![tactic(auto)]
+
 ghost use Rattle.std.specs.Prelude.{◌≡◌, Bool, not, ◌||◌, ◌≤◌, length, take};
 ghost use Rattle.meaning.specs.Lists.{all};
 ghost use Rattle.meaning.specs.Answers.{model};

@@ -8,14 +8,12 @@ use Prim.Native.Nat.{ℕ, ◌≤◌, ◌<◌, ◌%◌}
 use native.Mathlib.Omega.{arith}
 use lib.IntN.{ℤ}
 use lib.ListN.{length}
-use Rattle.meaning.specs.Program.{Program, AtomsIn}
+use Rattle.meaning.specs.Program.{AtomsIn}
 use Rattle.meaning.proofs.Cond.{lt_case, eq_case, if_lt_yes, if_lt_no, if_eq_yes, if_eq_no}
-use Rattle.meaning.specs.Cond.{if_lt, if_eq}
 use Rattle.results.specs.declared.Refusal.{Refusal}
 use Rattle.results.specs.declared.Refusal.TheVariants as refusal
 use Rattle.results.specs.Results.{number_of, place_of}
-use Rattle.layout.specs.declared.Table.{Table}
-use Rattle.layout.specs.Layout.{program_of, Laid}
+use Rattle.layout.specs.Layout.{program_of}
 use Rattle.table.specs.Contents.{Contents, program}
 use Rattle.table.specs.Grammar as grammar
 use Rattle.table.specs.Places.{table_of}
@@ -30,7 +28,7 @@ use Rattle.depend.proofs.Exact.{refused_8, refused_9, not_refused, cycle_cases}
 use Rattle.judging.specs.declared.Buffer.{Buffer}
 use Rattle.judging.specs.declared.Buffer.TheVariants as lent
 use Rattle.judging.specs.Refusals.{earns, AcceptedBy, RefusedBy, words, buffer, table, head, aggregate}
-use Rattle.judging.specs.Judging.{Placed, fault_of, refused_reading, taken_reading, JudgedBy, refused, taken}
+use Rattle.judging.specs.Judging.{Placed, fault_of, refused_reading, JudgedBy, refused, taken}
 
 pub no_fault : {x : Fault} {f : Refusal} → x ≡ fault.Refused f → x ≡ fault.Nothing → ⊥
 no_fault e i = let z : ◌≡◌ {A = ℕ} 0 1 = cc in omega arith

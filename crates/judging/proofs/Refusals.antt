@@ -19,7 +19,7 @@ use Rattle.table.specs.Contents.{Contents, program}
 use Rattle.table.specs.Grammar as grammar
 use Rattle.depend.specs.Cycles.{HeadCycleBy, Lowest, rule_of, no_rule}
 use Rattle.judging.specs.declared.Buffer.{Buffer}
-use Rattle.judging.specs.Refusals.{earns, AcceptedBy, RefusedBy, words, buffer, table, head, aggregate}
+use Rattle.judging.specs.Refusals.{AcceptedBy, RefusedBy, words, buffer, table, head, aggregate}
 
 -- ---- the definition of the words' contents says one thing
 

@@ -1,13 +1,10 @@
 -- A table has one judgement in each mode: two that meet the judge's promise for the same words and buffer are equal. Assumes nothing.
-use mathlib.Core.Path.{◌≡◌, refl, sym, ◌∙◌, ap}
+use mathlib.Core.Path.{◌≡◌, sym, ◌∙◌, ap}
 use mathlib.Core.Bool.{Bool}
 use mathlib.Core.List.{List}
-use Prim.Native.Nat.{ℕ}
 use lib.IntN.{ℤ}
-use Rattle.results.specs.declared.Refusal.{Refusal}
 use Rattle.results.specs.Results.{number_of, place_of}
 use Rattle.results.proofs.Determined.{refusal_determined}
-use Rattle.table.specs.Contents.{Contents}
 use Rattle.table.specs.declared.Reading.{Reading}
 use Rattle.judging.specs.declared.Buffer.{Buffer}
 use Rattle.judging.specs.Judging.{refused_reading, taken_reading, JudgedBy, refused, taken}

@@ -6,7 +6,7 @@
 --   refused_reading    a refusal, with no places;  fault_of, the refusal that the entry's own buffer earns
 -- Assumes nothing.
 use Rattle.std.specs.Prelude.{◌≡◌, Bool, false, List, ℕ, ◌≤◌, ◌%◌, ℤ, length, replicate}
-use Rattle.std.proofs.Math.Option.{Option, none}
+use Rattle.std.proofs.Math.Option.{none}
 use Rattle.meaning.specs.Cond.{if_lt, if_eq}
 use Rattle.results.specs.declared.Refusal.{Refusal}
 use Rattle.results.specs.declared.Refusal.TheVariants as refusal

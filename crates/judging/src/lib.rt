@@ -2,6 +2,7 @@
 // that is given a table asks here, and says which buffer of its own is judged in the place of 10, and whether it takes head cycles (request 14: then 8 is
 // not given). Nothing is written. Meaning: `specs/Refusals.antt`; that a table has one judgement: `proofs/Unique.antt`.
 #![tactic(auto)]
+
 ghost use Rattle.std.specs.Prelude.{◌≡◌, ◌≤◌, length};
 ghost use Rattle.judging.specs.Judging.{Judged, JudgedBy, JudgedWords, Filled, refused_reading, fault_of};
 

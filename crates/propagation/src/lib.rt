@@ -2,6 +2,7 @@
 // (`proofs/`): what each step of the code makes of the working state, how a pass and the passes go on by one, and what is handed over at their end.
 // What a rule asks is read by crate `rules`, what an atom asks by crate `support`.
 #![tactic(auto)]
+
 ghost use Rattle.std.specs.Prelude.{◌≡◌, ◌≤◌};
 ghost use Rattle.levels.specs.Levels.{union};
 ghost use Rattle.levels.specs.View.{row, rows};

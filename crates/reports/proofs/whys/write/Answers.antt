@@ -1,11 +1,7 @@
--- `reports::whys::write` meets its contract. The invariant of its loop: the numbers of the first i atoms stand at the front, and what follows is as it was.
--- Assumes nothing.
-use borrow.Author.Rules.{rules}
-use mathlib.Core.Path.{◌≡◌, ap, ◌∙◌}
-use mathlib.Core.List.{List}
-use Prim.Native.Nat.{ℕ, ◌+◌, ◌*◌}
-use native.Mathlib.Omega.{arith}
-use lib.ListN.{length, length-set, get_or, set}
+-- `reports::whys::write` meets its contract: the numbers of the first i atoms stand at the front, and what follows is as it was. Assumes nothing.
+use mathlib.Core.Path.{ap, ◌∙◌}
+use Rattle.std.proofs.Common.{◌≡◌, List, ℕ, ◌+◌, ◌*◌, length, arith, rules}
+use lib.ListN.{length-set, get_or, set}
 use Rattle.rounds.specs.Rounds.{no_why}
 use Rattle.reports.proofs.Numbers.{front, front_on, front_all, whys_whole}
 use Rattle.reports.proofs.whys.write.Goals as goal
@@ -28,5 +24,6 @@ pub returns : goal.returns
 returns c =
     let ws = c.args.whys in
     let old = c.args.numbers.now in
+    let n : length ws ≡ 256 = search rules in
     let e : c.loop-i.i ≡ 256 = omega (arith, c.loop-i.invariant.0, c.loop-i-test.false) in
-    c.loop-i.invariant.3 ∙ ap (front ws old) e ∙ front_all ws old 256 (search rules) ∙ whys_whole ws old c.loop-i.invariant.1
+    c.loop-i.invariant.3 ∙ ap (front ws old) e ∙ front_all ws old 256 n ∙ whys_whole ws old c.loop-i.invariant.1

@@ -1,0 +1,19 @@
+-- `aspif_rules::put_rules` meets its contract. The invariant of its loop: to lay the lines of the rules left from here is to lay all from the start. Assumes nothing.
+use mathlib.Core.List.{map}
+use lib.IntN.{ℤ}
+use Rattle.meaning.specs.Lists.{Is}
+use Rattle.layout.specs.Layout.{RulesLie}
+use Rattle.aspif.specs.Writing.{uses, stated}
+use Rattle.bytes_out.proofs.Laws.{Left}
+use Rattle.aspif_parts.specs.Held.{numbered_from, held_by}
+use Rattle.aspif_parts.specs.Parts.{lines_text}
+use Rattle.aspif_rules.proofs.put_rules.Given as goal
+
+abbrev pub invariant-loop-left : goal.invariant-loop-left
+invariant-loop-left l =
+    RulesLie l.tb.atoms l.tb.aggregates l.t l.rule l.left
+    × ((w : ℤ) → Is (uses (numbered_from l.t l.rule l.left) w) → Is (uses (held_by l.t l.tb).rules w))
+    × Left l.initial.out l.at (lines_text (map (stated (held_by l.t l.tb)) (numbered_from l.t l.initial.rule l.initial.left))) l.out l.to (lines_text (map (stated (held_by l.t l.tb)) (numbered_from l.t l.rule l.left)))
+
+abbrev pub decreases-loop-left : goal.decreases-loop-left
+decreases-loop-left l = l.left

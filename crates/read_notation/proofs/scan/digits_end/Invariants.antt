@@ -1,0 +1,13 @@
+-- `read_notation::scan::digits_end` meets its contract. The invariant of its loop: from `i` on it is as far as from `from` on. Assumes nothing.
+use mathlib.Core.Path.{◌≡◌}
+use Prim.Native.Nat.{◌+◌, ◌-◌}
+use lib.ListN.{length, drop}
+use Rattle.notation.specs.Tokens.{digit}
+use Rattle.read_notation.specs.Scanning.{span}
+use Rattle.read_notation.proofs.scan.digits_end.Given as goal
+
+abbrev pub invariant-loop-i : goal.invariant-loop-i
+invariant-loop-i l = l.i + span digit (drop l.i l.text) ≡ l.from + span digit (drop l.from l.text)
+
+abbrev pub decreases-loop-i : goal.decreases-loop-i
+decreases-loop-i l = length l.text - l.i

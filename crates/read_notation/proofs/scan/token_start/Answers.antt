@@ -1,0 +1,16 @@
+-- `read_notation::scan::token_start` meets its contract. The invariant of its loop: from `i` on it is as far as from `from` on. Assumes nothing.
+use mathlib.Core.Path.{sym, ◌∙◌}
+use Rattle.read_notation.proofs.Scanning.{gap_on, gap_stop, gap_end}
+use Rattle.read_notation.proofs.scan.token_start.Goals as goal
+
+pub returns-then-not-passes : goal.returns-then-not-passes
+returns-then-not-passes c =
+    gap_stop _ c.loop-i.i c.loop-i-test.true c.loop-i.comment (sym c.passes.ensures ∙ c.if-not-passes.true) ∙ c.loop-i.invariant
+
+pub loop-i-preserved : goal.loop-i-preserved
+loop-i-preserved c =
+    rw c.comment_after-comment.ensures
+    (sym (gap_on _ c.loop-i.i c.loop-i-test.true c.loop-i.comment (sym c.passes.ensures ∙ c.if-not-passes.false)) ∙ c.loop-i.invariant)
+
+pub returns : goal.returns
+returns c = gap_end _ c.loop-i.i c.loop-i.comment c.loop-i-test.false ∙ c.loop-i.invariant
