@@ -1,10 +1,10 @@
 #!/bin/sh
-# Times the listing of the first 10,000 plans of the benchmark's night plans: bench/list.sh. Needs rustc; run `rt staticlib desk` first. Where there is clasp, it
+# Times the listing of the first 10,000 plans of the benchmark's night plans: bench/list.sh. Needs rustc; run `rt lib` in crates/desk first. Where there is clasp, it
 # lists as many of the same tables, as aspif.
 set -eu
 cd "$(dirname "$0")/.."
-library=target/staticlib
-[ -f "$library/libdesk.a" ] || { echo "no $library/libdesk.a (rt staticlib desk makes it)"; exit 1; }
+library=crates/desk/out
+[ -f "$library/libdesk.a" ] || { echo "no $library/libdesk.a (rt lib in crates/desk makes it)"; exit 1; }
 mkdir -p target/bench
 rustc -O --edition 2021 -L "$library" -l static=desk bench/src/listing.rs -o target/bench/listing
 target/bench/listing target/bench

@@ -1,5 +1,5 @@
 #!/bin/sh
-# Times the library against the same defined search in plain Rust: bench/run.sh. Needs rustc; run `rt staticlib dock` first.
+# Times the library against the same defined search in plain Rust: bench/run.sh. Needs rustc; run `rt lib` in crates/dock first.
 # `bench/run.sh check` compares the baseline with the vectors instead.
 set -eu
 export PYTHONDONTWRITEBYTECODE=1
@@ -14,14 +14,14 @@ if [ "${1:-}" = check ]; then
     target/bench/check whys tools/dock/reasons/stdin tools/dock/reasons/stdout
     exit
 fi
-library=target/staticlib
+library=crates/dock/out
 if [ -f "$library/libdock.a" ]; then
     if command -v objdump >/dev/null && command -v python3 >/dev/null; then
         python3 tools/probes.py "$library/libdock.a"
     fi
     rustc -O --edition 2021 --cfg dock --check-cfg 'cfg(dock)' -L "$library" -l static=dock bench/src/main.rs -o target/bench/bench
 else
-    echo "no $library/libdock.a (rt staticlib dock makes it)"
+    echo "no $library/libdock.a (rt lib in crates/dock makes it)"
     rustc -O --edition 2021 --check-cfg 'cfg(dock)' bench/src/main.rs -o target/bench/bench
 fi
 exec target/bench/bench

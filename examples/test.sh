@@ -2,11 +2,11 @@
 # Builds the C and the Rust examples with cc and rustc alone, runs them, and compares what they print.
 set -eu
 cd "$(dirname "$0")/.."
-dock=target/staticlib/libdock.a
-desk=target/staticlib/libdesk.a
+dock=crates/dock/out/libdock.a
+desk=crates/desk/out/libdesk.a
 for library in dock desk; do
-    if [ ! -f target/staticlib/lib$library.a ]; then
-        echo "no target/staticlib/lib$library.a (rt staticlib $library makes it)"
+    if [ ! -f crates/$library/out/lib$library.a ]; then
+        echo "no crates/$library/out/lib$library.a (rt lib in crates/$library makes it)"
         exit 1
     fi
 done
@@ -19,7 +19,7 @@ cc -std=c11 -Wall -Wextra -Werror -O2 -I include examples/c/plan.c $dock -o targ
 cc -std=c11 -Wall -Wextra -Werror -O2 -I include examples/c/aspif.c $desk $dock -o target/examples/aspif
 cc -std=c11 -Wall -Wextra -Werror -O2 -I include examples/c/pins.c $desk $dock -o target/examples/pins_c
 cc -std=c11 -Wall -Wextra -Werror -O2 -I include examples/c/plain.c $desk $dock -o target/examples/plain_c
-rustc -O --edition 2021 -D warnings -L target/staticlib -l static=dock examples/rust/plan.rs -o target/examples/plan_rust
+rustc -O --edition 2021 -D warnings -L crates/dock/out -l static=dock examples/rust/plan.rs -o target/examples/plan_rust
 for program in plan_c plan_rust; do
     "target/examples/$program" | diff - examples/expected
     echo "$program: ok"

@@ -24,8 +24,8 @@
  *   foundedness test: its choices are counted among the reported ones and against the same limit, and `whys` is all 0. On a table
  *   without head cycles both modes give the same kind and plan whenever neither meets its limit.
  *
- * Two libraries, for x86-64 Linux: libdock.a (`rt staticlib dock`) has saucepebbly_solve and saucepebbly_approve, which the
- * dock runs; libdesk.a (`rt staticlib desk`) has all others. A program may link either or both.
+ * Two libraries, for x86-64 Linux: libdock.a (`rt lib` in crates/dock) has saucepebbly_solve and saucepebbly_approve, which the
+ * dock runs; libdesk.a (`rt lib` in crates/desk) has all others. A program may link either or both.
  */
 #ifndef SAUCEPEBBLY_H
 #define SAUCEPEBBLY_H

@@ -35,11 +35,11 @@ def uncommented(text, mark):
 def imports(text, crate):
     """The names that a file brings in: local name -> (crate, module, name); name None: all of the module, under a short name."""
     found = {}
-    for m in re.finditer(r"(?:ghost )?use (Rattle·\S+?)(?:\.\{([^}]*)\}|(?: as (\S+?))?);?\s*$", text, re.M):
+    for m in re.finditer(r"(?:ghost )?use (Rattle\.\S+?)(?:\.\{([^}]*)\}|(?: as (\S+?))?);?\s*$", text, re.M):
         path, names, short = m.group(1), m.group(2), m.group(3)
         parts = path.split(".")
-        home = parts[0].split("·")[1]
-        module = ".".join(parts[2:]) if len(parts) > 2 and parts[1] == "specs" else ".".join(parts[1:])
+        home = parts[1]
+        module = ".".join(parts[3:]) if len(parts) > 3 and parts[2] == "specs" else ".".join(parts[2:])
         if names is not None:
             for n in names.split(","):
                 n = n.strip()
@@ -49,14 +49,11 @@ def imports(text, crate):
                     local = n
                 if n:
                     found[local] = (home, module, n)
-                    if "_" in n:
-                        found[n.replace("_", "")] = (home, module, n)
+                    if "◌" in n:
+                        found[n.replace("◌", "")] = (home, module, n)
         elif short:
             found[short] = (home, module, None)
     return found
-
-
-START = re.compile(r"^(\s*)(?:(?:abbrev|unfoldable|opaque)\s+)?(pub\s+)?(?:(record|data)\s+)?(" + WORD + r"(?:_[^\s]*)?)\s")
 
 
 def definitions(text):
@@ -72,8 +69,8 @@ def definitions(text):
             current = m.group(5)
             blocks.setdefault(current, "")
             names[current] = current
-            if "_" in current:
-                names[current.replace("_", "")] = current
+            if "◌" in current:
+                names[current.replace("◌", "")] = current
             isdata = bool(m.group(4)) and m.group(4).strip() == "data"
             indent = len(m.group(1))
         elif current and re.match(r"^\s*module ", line):
@@ -158,7 +155,7 @@ def order():
     out = []
     for line in read(os.path.join(ROOT, "crates.txt")).split("\n"):
         if ":" in line.split("#")[0]:
-            out.append(line.split(":")[0].strip())
+            out.append(line.split(":")[0].split()[0])
     return out
 
 

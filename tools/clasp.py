@@ -1,12 +1,12 @@
 #!/usr/bin/env python3
 """Our reading and writing of aspif, judged by clasp. Not part of the gate: needs gringo, clasp and cc.
 
-    rt staticlib dock && rt staticlib desk
+    (cd crates/dock && rt lib) && (cd crates/desk && rt lib)
     python3 tools/clasp.py read [COUNT [SEED]]     random texts of the subset, one in ten of them from gringo
     python3 tools/clasp.py write [COUNT [SEED]]    random tables of all shapes, written as texts
     python3 tools/clasp.py night                   the night plan of examples/night.lp
 
-Everything of ours goes through the entries of include/saucepebbly.h in target/staticlib. All plans of a
+Everything of ours goes through the entries of include/saucepebbly.h in these libraries. All plans of a
 table are found by solving again and again, each time with one constraint more, which rules the last plan out: no answer
 set contains another, so that `:- all atoms of the plan.` rules out this one alone. Tables that the solver refuses for a
 cycle (8, 9), and small tables anyway, are also judged by `enumerate.py`, which tries every interpretation.
@@ -34,7 +34,7 @@ MOST_WORDS = 16384
 def library():
     folder = os.path.join(ROOT, "target", "clasp")
     os.makedirs(folder, exist_ok=True)
-    archives = [os.path.join(ROOT, "target", "staticlib", name) for name in ("libdock.a", "libdesk.a")]
+    archives = [os.path.join(ROOT, "crates", name, "out", f"lib{name}.a") for name in ("dock", "desk")]
     shared = os.path.join(folder, "libsaucepebbly.so")
     subprocess.run(["cc", "-shared", "-o", shared, "-Wl,--whole-archive", *archives, "-Wl,--no-whole-archive"], check=True)
     return ctypes.CDLL(shared)

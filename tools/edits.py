@@ -16,7 +16,7 @@ BEGIN, END = "<!-- edits: begin -->", "<!-- edits: end -->"
 
 def crates():
     with open(os.path.join(ROOT, "crates.txt"), encoding="utf-8") as f:
-        return [line.split(":")[0].strip() for line in f if ":" in line.split("#")[0]]
+        return [line.split(":")[0].split()[0] for line in f if ":" in line.split("#")[0]]
 
 
 def table():

@@ -21,20 +21,19 @@ import sys
 
 ROOT = os.path.join(os.path.dirname(os.path.abspath(__file__)), "..", "crates")
 FUNCTION = re.compile(r'^[ ]*pub (?:extern "C" )?fn (\w+)\(', re.M)
-END = "⌝ }"
 
 
 def libraries():
     with open(os.path.join(ROOT, "..", "crates.txt"), encoding="utf-8") as file:
-        names = [line.split(":")[0] for line in file if ":" in line and not line.startswith("#")]
+        names = [line.split(":")[0].split()[0] for line in file if ":" in line and not line.startswith("#")]
     return [name for name in names if os.path.exists(os.path.join(ROOT, name, "src", "lib.rt"))]
 
 
-def closing(text, at):
+def closing(text, at, brackets="()"):
     """The index of the bracket that closes the one at `at`."""
     depth = 0
     while True:
-        depth += {"(": 1, ")": -1}.get(text[at], 0)
+        depth += {brackets[0]: 1, brackets[1]: -1}.get(text[at], 0)
         if depth == 0:
             return at
         at += 1
@@ -44,12 +43,12 @@ def contracts(text, at):
     """What stands in `requires` and in `ensures` from `at` on."""
     found = {"requires": [], "ensures": []}
     while True:
-        clause = re.match(r"[^{]*?(requires|ensures)\s*\{", text[at:])
+        clause = re.match(r"[^{]*?(requires|ensures)(\s+\w+)?\s*\{", text[at:])
         if not clause:
             return found
-        end = text.index(END, at)
-        found[clause.group(1)].append(" ".join(text[at + clause.end():end].split()).replace("⌜", "").strip())
-        at = end + len(END)
+        end = closing(text, at + clause.end() - 1, "{}")
+        found[clause.group(1)].append(" ".join(text[at + clause.end():end].split()))
+        at = end + 1
 
 
 def functions(path):
@@ -63,11 +62,11 @@ def functions(path):
 
 
 def said(fact, thing):
-    """What a contract says of a thing: `r`, or `now (b .exit)` for the later content of a buffer b."""
+    """What a contract says of a thing: `result`, or `b.new` for the later content of a buffer b."""
     name = re.escape(thing)
-    if re.search(rf"(^|[(×] ?)(now )?{name} ≡", fact):
+    if re.search(rf"(^|[(×] ?){name}(\.now)? ≡", fact):
         return "="
-    view = re.search(rf"(^|[(×] ?)(\w+) \(?{name}( \.\w+)?\)?( 0)? ≡", fact)
+    view = re.search(rf"(^|[(×] ?)(\w+) \(?{name}(\.\w+)?\)?( 0)? ≡", fact)
     if view and view.group(2) != "length":
         return f"= `{view.group(2)}`"
     relation = re.search(rf"(^|× )([A-Z]\w+) [^×]*{name}", fact)
@@ -84,13 +83,9 @@ def most(sayings):
 def row_of(path, name, parameters, result, found):
     """The function, whether it asks something, what is said of the result, what of each buffer."""
     asks = "yes" if found["requires"] else "no"
-    facts = []
-    for ensures in found["ensures"]:
-        bound = re.match(r"λ (\w+)\.", ensures)
-        facts.append((bound.group(1) if bound else None, ensures[bound.end():].strip() if bound else ensures))
-    of_result = most([said(fact, name) for name, fact in facts if name]) if result else ""
+    of_result = most([said(fact, "result") for fact in found["ensures"]]) if result else ""
     buffers = re.findall(r"(\w+): &mut", parameters)
-    of_buffers = "; ".join(f"{buffer}: {most([said(fact, f'now ({buffer} .exit)') for _, fact in facts])}" for buffer in buffers)
+    of_buffers = "; ".join(f"{buffer}: {most([said(fact, f'{buffer}.new') for fact in found['ensures']])}" for buffer in buffers)
     return f"{path}::{name}", asks, of_result, of_buffers
 
 

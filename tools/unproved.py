@@ -5,8 +5,9 @@
 
 `rt try` compiles a program from the sources of all libraries. So crate `dock` is made a program with an empty `main`; the kit's compiler is called through a
 script that keeps the module which it is given; to that module come the C entries (a slice is a pointer and a length), and it is compiled with the flags that
-`rt staticlib` has. Its stack and its instruction counts were those of the
-proved library exactly, wherever both were measured.
+the library is built with. Its stack and its instruction counts were those of the
+proved library exactly, wherever both were measured. Only kits that have `rattle-cases` do this: today's compiles unproved sources with checks put in, so measure
+crates/dock/out/libdock.a, which `rt lib` makes.
 """
 
 import os
@@ -28,7 +29,7 @@ def dependencies(repository):
         for line in file:
             name, found, rest = line.split("#")[0].partition(":")
             if found:
-                crates[name.strip()] = rest.split()
+                crates[name.split()[0]] = rest.split()
     return crates
 
 
@@ -93,6 +94,8 @@ def main():
     repository = os.path.abspath(sys.argv[1] if len(sys.argv) > 1 else os.path.join(os.path.dirname(__file__), ".."))
     guide = subprocess.run(["rt", "doc"], capture_output=True, text=True, check=True).stdout.strip()
     kit = os.path.realpath(os.path.join(os.path.dirname(guide), ".."))
+    if not os.path.exists(f"{kit}/on/x86_64/bin/rattle-cases"):
+        sys.exit("this kit compiles unproved sources only with checks put in: measure crates/dock/out/libdock.a (rt lib in crates/dock makes it)")
     out = f"{repository}/target/unproved"
     os.makedirs(out, exist_ok=True)
     with tempfile.TemporaryDirectory() as room:

@@ -1,8 +1,8 @@
 /* What reading and writing aspif, storing and restoring cost: the time by the length of the text or the bytes. bench/src/stacks.c has the stack.
  *
- *     rt staticlib desk
+ *     (cd crates/desk && rt lib)
  *     mkdir -p target/bench
- *     cc -O2 -Iinclude bench/src/aspif_cost.c target/staticlib/libdesk.a -o target/bench/aspif_cost && target/bench/aspif_cost
+ *     cc -O2 -Iinclude bench/src/aspif_cost.c crates/desk/out/libdesk.a -o target/bench/aspif_cost && target/bench/aspif_cost
  */
 #define _POSIX_C_SOURCE 200809L
 #include "saucepebbly.h"

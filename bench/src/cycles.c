@@ -1,7 +1,7 @@
 /* The search where head cycles are taken (request 14), on 40 atoms in 20 pairs that depend on each other: time and counts. bench/src/stacks.c has the stack.
  *
- *     rt staticlib dock
- *     cc -O2 -Iinclude bench/src/cycles.c target/staticlib/libdock.a -o target/bench/cycles && target/bench/cycles
+ *     (cd crates/dock && rt lib)
+ *     cc -O2 -Iinclude bench/src/cycles.c crates/dock/out/libdock.a -o target/bench/cycles && target/bench/cycles
  *
  * Both tables have, of each pair, `a | b. a :- b. b :- a.`: the one answer set has all 40 atoms, and the test has to show that it has no smaller model. In the second
  * table 20 atoms more are guessed, and a constraint leaves the last of the guesses only. The last line is what the test takes beyond the foundedness

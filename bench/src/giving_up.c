@@ -1,7 +1,7 @@
 /* What giving up costs (02, request 13): one search for the rules with heads and one for each constraint, beside one search of the whole table.
  *
- *     rt staticlib dock && rt staticlib desk && mkdir -p target/bench
- *     cc -O2 -Iinclude bench/src/giving_up.c target/staticlib/libdesk.a target/staticlib/libdock.a -o target/bench/giving_up && target/bench/giving_up
+ *     (cd crates/dock && rt lib) && (cd crates/desk && rt lib) && mkdir -p target/bench
+ *     cc -O2 -Iinclude bench/src/giving_up.c crates/desk/out/libdesk.a crates/dock/out/libdock.a -o target/bench/giving_up && target/bench/giving_up
  */
 #define _POSIX_C_SOURCE 200809L
 #include "saucepebbly.h"

@@ -1,6 +1,6 @@
 //! Times the library against the baseline on the same tables, in one run, and compares every result.
 //!
-//! Built by bench/run.sh: with `--cfg dock` it is linked with target/staticlib/libdock.a; without, only the
+//! Built by bench/run.sh: with `--cfg dock` it is linked with crates/dock/out/libdock.a; without, only the
 //! baseline is timed. Three columns of time, each the least of several rounds that take the three in turn:
 //! the library, the baseline with 01's walk over all rules in steps d and e, the baseline with a list of
 //! rules for each head atom. It ends with status 1 if two results differ.

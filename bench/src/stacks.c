@@ -1,8 +1,8 @@
 /* The stack of each C entry at its deepest, over texts in the form of crates/run_texts/stdin (four bytes of length, low byte first, then limit and words), over a
  * table with aggregates near the limits, and over 256 atoms that each support themselves, so that all are chosen before the final test fails.
  *
- *     rt staticlib dock && rt staticlib desk && mkdir -p target/bench
- *     cc -O2 -Iinclude bench/src/stacks.c target/staticlib/libdesk.a target/staticlib/libdock.a -lpthread -o target/bench/stacks
+ *     (cd crates/dock && rt lib) && (cd crates/desk && rt lib) && mkdir -p target/bench
+ *     cc -O2 -Iinclude bench/src/stacks.c crates/desk/out/libdesk.a crates/dock/out/libdock.a -lpthread -o target/bench/stacks
  *     target/bench/stacks <crates/run_texts/stdin
  *
  * The stack of a thread is painted before the call; what has lost its paint after it was used, less what a thread uses that does nothing. */

@@ -1,7 +1,7 @@
 /* The stack of the check and of solve where head cycles are taken (request 14), on 20 pairs that depend on each other: the check with the test in it. mode 0 refuses them.
  *
- *     rt staticlib dock && mkdir -p target/bench
- *     cc -O2 -Iinclude bench/src/test_stack.c target/staticlib/libdock.a -Wl,-z,now -lpthread -o target/bench/test_stack && target/bench/test_stack
+ *     (cd crates/dock && rt lib) && mkdir -p target/bench
+ *     cc -O2 -Iinclude bench/src/test_stack.c crates/dock/out/libdock.a -Wl,-z,now -lpthread -o target/bench/test_stack && target/bench/test_stack
  *
  * Painted as in bench/src/stacks.c. With `-z now`, for else the first call of memcpy is bound on the painted stack, which takes some 2.7 KB of its own. */
 #define _POSIX_C_SOURCE 200809L

@@ -3,13 +3,13 @@
 # through C, with the kit's own compiler and linker. Ends with status 0 only if every line is the expected one.
 set -eu
 cd "$(dirname "$0")/../.."
-kit=$(dirname "$(rt doc)")/..
-tools=$kit/on/x86_64/toolchain/bin
+kit=$(dirname "$(rt doc)")
+tools=$kit/toolchain/bin
 lib=$kit/toolchain/lib
-rt staticlib dock
-rt staticlib desk
-dock=target/staticlib/libdock.a
-desk=target/staticlib/libdesk.a
+(cd crates/dock && rt lib)
+(cd crates/desk && rt lib)
+dock=crates/dock/out/libdock.a
+desk=crates/desk/out/libdesk.a
 if command -v objdump >/dev/null && command -v python3 >/dev/null; then
     PYTHONDONTWRITEBYTECODE=1 python3 tools/probes.py "$dock"
     PYTHONDONTWRITEBYTECODE=1 python3 tools/probes.py "$desk"

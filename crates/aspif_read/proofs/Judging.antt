@@ -5,13 +5,13 @@ use mathlib.Core.Bool.{Bool, true, false, ◌&&◌}
 use mathlib.Core.List.Memᴰ
 use mathlib.Core.List.{List, [], ◌∷◌, ◌++◌, map}
 use mathlib.Core.Option.{Option, some, none}
-use Prim.Native.Nat.{ℕ, ◌+◌, ◌*◌, ◌-◌, ◌≤◌, max}
+use Prim.Native.Nat.{ℕ, ◌+◌, ◌*◌, ◌≤◌, max}
 use native.Mathlib.Omega.{arith}
 use borrow.Author.Tests.{le-ltb, ltb-true, ltb-false, le-leb}
 use lib.Dec.{leb, ltb}
 use lib.IntN.{ℤ, pos, negsuc, pred_ℤ}
 use lib.ListN.{length, length-append, length-map}
-use Rattle.meaning.specs.Lists.{Is, ◌∈◌, all, has}
+use Rattle.meaning.specs.Lists.{Is, ◌∈◌, all}
 use Rattle.meaning.specs.Program.{Element, Aggregate}
 use Rattle.meaning.specs.declared.Function.TheVariants.{Sum}
 use Rattle.meaning.specs.declared.Comparison.TheVariants.{Greater}
@@ -22,7 +22,7 @@ use Rattle.table.specs.Roles.{within}
 use Rattle.text.specs.Text.{pick}
 use Rattle.aspif.specs.Statements.{Signed, Body, normal, weight, Statement, positives, negateds}
 use Rattle.aspif.specs.Reading.{atoms_of, named, highest, sorted, merged, body_aggregates, read_rule}
-use Rattle.aspif.specs.Lines.{Weighed, Form, plain, weighed, weights_in, weighed_in, form_in, body_ranges, rule, outside}
+use Rattle.aspif.specs.Lines.{Weighed, Form, plain, weighed, weights_in, weighed_in, form_in, body_ranges}
 use Rattle.aspif_scan.specs.declared.machine.State.{State}
 use Rattle.aspif_scan.specs.Machine.{higher_of}
 use Rattle.aspif_scan.specs.Marks.{row_from, light_from}
@@ -63,10 +63,12 @@ inside_e p i =
 
 pair_member : (l : List Weighed) (x : Weighed) → x ∈ l → x.atom ∈ pair_atoms l
 pair_member (y ∷ l) x (Memᴰ.head e) = Memᴰ.head (ap (λ (z : Weighed). z.atom) e)
+pair_member [] x x3 = elim x3 [ ]
 pair_member (y ∷ l) x (Memᴰ.tail i) = Memᴰ.tail (pair_member l x i)
 
 member_weight : (l : List Weighed) (es : List Element) → weights_in l ≡ some es → (x : Weighed) → x ∈ l → (v : ℕ) × (x.weight ≡ pos v)
 member_weight (y ∷ l) es e x (Memᴰ.head f) = let t = weights_cons y l es e in (t.0, ap (λ (z : Weighed). z.weight) f ∙ t.2)
+member_weight [] es e x x4 = elim x4 [ ]
 member_weight (y ∷ l) es e x (Memᴰ.tail i) = let t = weights_cons y l es e in member_weight l t.1 t.3 x i
 
 fine_at : (z : ℤ) (v : ℕ) → z ≡ pos v → (capped z).size ≤ 65535 → Is (fine 65535 z)

@@ -11,7 +11,7 @@ use lib.IntN.{ℤ, pos, negsuc}
 use lib.ListN.{length}
 use Rattle.text.specs.Text.{pick}
 use Rattle.aspif.specs.Statements.{Signed}
-use Rattle.aspif.specs.Lines.{Weighed, plain, Raw, take_atoms, take_literals, take_pairs}
+use Rattle.aspif.specs.Lines.{Weighed, Raw, take_atoms, take_literals, take_pairs}
 use Rattle.aspif_scan.specs.declared.number.Number.{Number}
 use Rattle.aspif_scan.specs.declared.machine.Stage.{Stage}
 use Rattle.aspif_scan.specs.declared.machine.Stage.TheVariants.{HeadCount, Head, Body, LiteralCount, Literal, Bound, PairCount, Pair, Weight, NormalEnd, WeightEnd, Outside}

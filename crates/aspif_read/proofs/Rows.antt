@@ -12,7 +12,6 @@ use lib.Seq.{get_or-set_same, get_or-set_other}
 use Rattle.meaning.specs.Lists.{cons_if, has}
 use Rattle.text.specs.Text.{pick}
 use Rattle.aspif.specs.Statements.{Signed, positives, negateds}
-use Rattle.aspif.specs.Reading.{sorted, merged}
 use Rattle.aspif.specs.Lines.{Weighed}
 use Rattle.aspif_scan.specs.Marks.{slot_of, literal_row, add_of}
 use Rattle.aspif_read.specs.Survey.{no_marks}

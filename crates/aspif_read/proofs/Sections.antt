@@ -3,7 +3,7 @@ use mathlib.Core.Path.{◌≡◌, refl, sym, ap, ap₂, ◌∙◌, subst}
 use mathlib.Core.Bool.{Bool, true, false, ◌&&◌}
 use mathlib.Core.List.{List, [], ◌∷◌, ◌++◌, append_assoc, append-nil}
 use mathlib.Core.Option.{Option, some, none}
-use Prim.Native.Nat.{ℕ, suc, ◌+◌, ◌-◌, ◌≤◌, min}
+use Prim.Native.Nat.{ℕ, suc, ◌+◌, ◌≤◌, min}
 use native.Mathlib.Numerals.{add-one}
 use native.Mathlib.Omega.{arith}
 use borrow.Author.Tests.{leb-true}
@@ -254,7 +254,7 @@ lines_sum (l ∷ ls) k ss ts u e = at (line_of l) refl (λ rs f. lines_sum ls (s
 
 rules_count : (k : ℕ) (us : List Statement) → length (read_rules k us) ≡ length us
 rules_count k [] = refl
-rules_count k (s ∷ us) = ap suc (rules_count _ us)
+rules_count k (s ∷ us) = ap suc (rules_count (k + length (body_aggregates s.body)) us)
 
 -- the words that are written are those of what was read
 pub table_is : (ls : List (List ℕ)) (us : List Statement) → Sums ls us → table_from (totals_of us) ls ≡ encode (read us)

@@ -148,6 +148,7 @@ module _ (h : List ℕ) (l : List Weighed) where
       let g : eqb p y.atom ≡ true = eq-eqb p y.atom (sym f ∙ ap (λ (z : Weighed). z.atom) e) in
       let q : (capped x.weight).size ≡ (capped y.weight).size = ap (λ (z : Weighed). (capped z.weight).size) e in
       rw g (omega arith)
+  size_in_lem p i j [] x x4 f = elim x4 [ ]
   size_in_lem p i j (y ∷ k) x (Memᴰ.tail m) f = let r = size_in_lem p i j k x m f in omega arith
 
   pub light_sizes : light_from weigh_marks 1024 256 ≡ true → (x : Weighed) → x ∈ l → 1 ≤ x.atom → x.atom ≤ 256 → (capped x.weight).size ≤ 65535

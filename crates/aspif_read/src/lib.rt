@@ -1,6 +1,7 @@
 // Reading aspif (02, Wish 2): a text of the subset becomes our words. A first pass judges every line and counts; only an accepted text is written,
 // the aggregates by a second pass and the rules by a third. Meaning: `specs/Reads.antt`; a text's own meaning: `aspif`'s `Lines`.
 #![tactic(auto)]
+
 ghost use Rattle.std.specs.Prelude.{◌≡◌, ◌≤◌, drop, length};
 ghost use Rattle.aspif.specs.Lines.{lines_of};
 ghost use Rattle.aspif_read.specs.Survey.{Fitting};

@@ -2,17 +2,15 @@
 use mathlib.Core.Path.{◌≡◌, refl, sym, ap, ◌∙◌, subst}
 use mathlib.Core.Bool.{Bool, true, false}
 use mathlib.Core.List.{List, [], ◌∷◌, ◌++◌, map, append_assoc, append-nil}
-use Prim.Native.Nat.{ℕ, zero, suc, ◌+◌, ◌≤◌, ◌<◌}
+use Prim.Native.Nat.{ℕ, suc, ◌+◌, ◌<◌}
 use native.Mathlib.Omega.{arith}
 use lib.IntN.{ℤ, pos, nat_abs}
 use lib.ListN.{length, get_or, drop}
 use lib.Seq.{ext_get_or}
 use Rattle.meaning.proofs.Tools.{clash}
-use Rattle.meaning.specs.Program.{Aggregate}
 use Rattle.layout.specs.Layout as layout
 use Rattle.layout.specs.Layout.{part_at, pos_at, neg_at, aggs_at, past_rule, aggregate_at, start_from, Laid}
 use Rattle.layout.specs.declared.Table.{Table}
-use Rattle.results.specs.declared.Refusal.{Refusal}
 use Rattle.table.specs.Contents.{NumberedRule, Contents, encode_list, encode_atoms, encode_aggregate, encode_rule, encode_all, encode, no_aggregate}
 use Rattle.table.specs.Grammar.{accepted, contents_of}
 use Rattle.table.specs.Places.{table_of}
@@ -23,7 +21,7 @@ use Rattle.table.proofs.Drops.{at_next, at_skip}
 use Rattle.table.proofs.LaidRules.{atoms_back, list_part, list_next_lem}
 use Rattle.table.proofs.Accepted.{accepted_encoding, accepted_laid, accepted_aggregate}
 use Rattle.judging.specs.declared.Buffer.{Buffer}
-use Rattle.judging.specs.Refusals.{Accepted, Refused}
+use Rattle.judging.specs.Refusals.{Accepted}
 use Rattle.judging.specs.Judging.{Judged, refused, taken}
 use Rattle.aspif.specs.Writing.{stated, used, defining_all, written}
 use Rattle.aspif.specs.Lines.{text_of}

@@ -6,7 +6,6 @@ use Prim.Native.Nat.{ℕ, ◌≤◌, ◌<◌}
 use lib.IntN.{ℤ}
 use lib.ListN.{length}
 use Rattle.meaning.proofs.Cond.{lt_case}
-use Rattle.results.specs.Results.{number_of, place_of}
 use Rattle.results.specs.declared.Refusal.TheVariants.{ShortBuffer}
 use Rattle.results.specs.declared.Written.{Written}
 use Rattle.table.specs.Contents.{Contents}

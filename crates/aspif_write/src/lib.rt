@@ -3,6 +3,7 @@
 // the table and in the text; besides the places of the table there are 256 bytes of local memory, the new atoms. Meaning: `specs/Promise.antt`; that the
 // promise has one answer only: `proofs/Unique.antt`.
 #![tactic(auto)]
+
 ghost use Rattle.std.specs.Prelude.{◌≤◌};
 ghost use Rattle.layout.specs.Layout.{Laid};
 ghost use Rattle.aspif.specs.Writing.{written};

@@ -3,7 +3,7 @@
 --   rounds_on     from the marks after k rounds to those after k + 1
 --   quiet_ends    a round that adds nothing: the marks are those after all rounds
 -- Assumes nothing.
-use Prim.Native.Nat.{ℕ, zero, suc, ◌+◌, ◌-◌, ◌≤◌, ◌<◌}
+use Prim.Native.Nat.{ℕ, zero, suc, ◌-◌, ◌≤◌, ◌<◌}
 use native.Mathlib.Omega.{arith}
 use mathlib.Core.Path.{◌≡◌, refl, sym, ap, ap₂, subst, ◌∙◌, fun_ext}
 use mathlib.Core.Logic.{◌⊎◌, inl, inr, ◌≢◌}
@@ -17,7 +17,7 @@ use Rattle.meaning.specs.Lists.{Is, ◌∈◌, all}
 use Rattle.meaning.specs.Aggregates.{Atoms}
 use Rattle.meaning.specs.Program.{Rule, Program, RuleIn, In}
 use Rattle.meaning.specs.Foundedness.{supports}
-use Rattle.meaning.proofs.Tools.{clash, cases, and_l, and_r, eq, neq_i, contra, all_at}
+use Rattle.meaning.proofs.Tools.{cases, and_l, neq_i, contra, all_at}
 use Rattle.meaning.proofs.Bounds.{lt}
 use Rattle.meaning.proofs.Cond.{if_eq_yes, if_eq_no, eq_case}
 use Rattle.meaning.proofs.Meaning.{supports_only}
@@ -33,8 +33,8 @@ use Rattle.foundation.proofs.Adding.{not_atom, could_supports, supports_could}
 use Rattle.foundation.proofs.Rules.{could_range}
 use Rattle.foundation.proofs.Candidates.{code_place, code_atom, code_is}
 use Rattle.rounds.specs.declared.Why.{Why}
-use Rattle.rounds.specs.Rounds.{no_why, why_of}
-use Rattle.rounds.specs.Marks.{seen, earlier, marked, walk, marks_after}
+use Rattle.rounds.specs.Rounds.{no_why}
+use Rattle.rounds.specs.Marks.{earlier, marked, walk, marks_after}
 use Rattle.rounds.proofs.Rounds.{why_of_false}
 use Rattle.rounds.proofs.Marks.{marked_sole, marked_none, marks_are_whys, quiet_stays}
 use Rattle.explaining.specs.Walk.{code_by, codes_from, FitCode, FitCodes, due, mark_by, walk_codes}

@@ -8,6 +8,7 @@
 // marks are two arrays of numbers, and go into the records when the last round is done. Meaning: crate `rounds`; how the rules are walked: `specs/Walk.antt`; how the
 // records are read: `specs/Kept.antt`. Memory: a word of 32 bits for each rule (1,024 at most), lent by the caller; two of 16 bits for each atom (256 at most).
 #![tactic(auto)]
+
 ghost use Rattle.std.specs.Prelude.{◌≡◌, false, ◌≤◌, length, take};
 ghost use Rattle.meaning.specs.Lists.{all};
 ghost use Rattle.interpretation.specs.State.{true_atoms, AllDefined};

@@ -4,7 +4,7 @@
 --   Replies   the line of a text: of its limit and words, or of its refusal
 -- `wrote` is how much was written to the front of the buffer `old`, and `new` is what the buffer then holds.
 -- Assumes nothing.
-use Rattle.std.specs.Prelude.{◌≡◌, false, List, [], ℕ, ℤ, replicate}
+use Rattle.std.specs.Prelude.{◌≡◌, false, List, ℕ, ℤ, replicate}
 use Rattle.results.specs.declared.Refusal.{Refusal}
 use Rattle.results.specs.declared.Solved.{Solved}
 use Rattle.results.specs.declared.Solved.TheVariants as solved

@@ -1,5 +1,6 @@
 // From a text to its line (01, "The text program"): read, solve, print. Meaning: `specs/Reply.antt`.
 #![tactic(auto)]
+
 ghost use Rattle.reply.specs.Reply.{Tells, Replies};
 
 use results::{Ask, Solved};

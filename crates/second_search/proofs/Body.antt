@@ -5,13 +5,12 @@ use mathlib.Core.Path.{◌≡◌, refl, sym, ap, ap₂, ◌∙◌}
 use mathlib.Core.Bool.{Bool, true, false, not, ◌&&◌}
 use mathlib.Core.List.Memᴰ
 use mathlib.Core.List.{List, [], ◌∷◌, ◌++◌, map}
-use Rattle.meaning.specs.Lists.{◌∈◌, all}
+use Rattle.meaning.specs.Lists.{all}
 use Rattle.meaning.specs.Aggregates.{Atoms}
 use Rattle.meaning.specs.Program.{Literal, Rule, RuleIn}
 use Rattle.meaning.specs.Answers.{literal, body}
 use Rattle.interpretation.specs.State.{Cell, AllDefined, true_atoms}
 use Rattle.valuing.specs.Values.{Lit, atom_lit, agg_lit, true_in}
-use Rattle.rules.specs.declared.Step.{Step}
 use Rattle.rules.specs.Demand.{together, asks, is_conflict}
 use Rattle.foundation.specs.Walk.{rest_true}
 use Rattle.foundation.proofs.Decided.{ask_bool, asks_decided, ask_conflict, decides_body}

@@ -8,3 +8,5 @@ pub mod Lacking
 pub mod Ordered
 pub mod Turns
 pub mod Standing
+pub mod Counting
+pub mod Facing

@@ -1,26 +1,18 @@
 -- Working states that differ in reasons only stay so through steps a to c, a pass and passes; and one rule further, one pass further, as the code goes.
 -- Assumes nothing.
-use Prim.Native.Nat.{ℕ, zero, suc, ◌-◌, ◌≤◌, ◌<◌}
-use native.Mathlib.Omega.{arith}
-use mathlib.Core.Path.{◌≡◌, refl, sym, ◌∙◌, ap, ap₂, subst}
+use Prim.Native.Nat.{ℕ, zero, suc}
+use mathlib.Core.Path.{◌≡◌, refl, sym, ◌∙◌, ap, ap₂}
 use mathlib.Core.Bool.{Bool, true, false, cond}
-use mathlib.Core.List.{List, [], ◌∷◌}
-use lib.IntN.{ℤ}
-use Rattle.meaning.specs.Lists.{Is}
-use Rattle.meaning.specs.Aggregates.{Atoms}
+use mathlib.Core.List.{[], ◌∷◌}
 use Rattle.meaning.specs.Program.{Rule, Program}
-use Rattle.meaning.specs.Answers.{body, reduct}
 use Rattle.meaning.proofs.Tools.{clash}
-use Rattle.levels.specs.Levels.{Levels, no_levels}
+use Rattle.levels.specs.Levels.{Levels}
 use Rattle.interpretation.specs.State.{Cell, defined, put}
-use Rattle.layout.specs.Layout.{past_rule, rule_at, rules_from}
-use Rattle.layout.proofs.Rounds.{rules_on, rules_none}
-use Rattle.steps.specs.Steps.{Verdict, settled, conflict, is_settled, Work, set, refuted, if_settled, step_rule, rule_reason, rule_pass, unchanged, pass, passes}
+use Rattle.steps.specs.Steps.{Verdict, settled, conflict, is_settled, Work, set, refuted, if_settled, step_rule, rule_reason, rule_pass, pass, passes}
 use Rattle.rules.specs.declared.Step.{Step}
 use Rattle.rules.specs.declared.Step.TheVariants.{Nothing, Conflict, Set}
 use Rattle.rules.specs.Demand.{demand_of, did}
 use Rattle.rules.proofs.Rule.{step_rule_lem}
-use Rattle.smaller.proofs.Second.{reduct_takes, reduct_skips}
 use Rattle.second_search.specs.Looking.{Like}
 
 pub like_refl : (w : Work) → Like w w

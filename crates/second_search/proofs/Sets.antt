@@ -1,12 +1,11 @@
 -- What is asked of a rule sets an undefined atom of 1 .. n. Assumes nothing.
-use Prim.Native.Nat.{ℕ, ◌≤◌}
+use Prim.Native.Nat.{ℕ}
 use native.Mathlib.Omega.{arith}
 use mathlib.Core.Path.{◌≡◌}
 use mathlib.Core.Bool.{Bool, true, false}
 use Rattle.meaning.specs.Program.{Rule, In, RuleIn}
 use Rattle.interpretation.specs.State.{Cell, undefined}
-use Rattle.rules.specs.declared.Step.{Step}
-use Rattle.rules.specs.declared.Step.TheVariants.{Nothing, Conflict, Set}
+use Rattle.rules.specs.declared.Step.TheVariants.{Set}
 use Rattle.rules.specs.Demand.{demand_of}
 use Rattle.rules.proofs.Rule.{demand_open}
 use Rattle.second_search.specs.Looking.{asked_of}

@@ -24,8 +24,7 @@ use Rattle.smaller.specs.Cyclic.{has_smaller}
 use Rattle.smaller.proofs.Second.{second_laws}
 use Rattle.smaller.proofs.Exact.{found_is_smaller, none_is_smaller}
 use Rattle.smaller.proofs.Check.{test_quiet, has_smaller_in}
-use Rattle.second_search.specs.declared.Turn.{Turn}
-use Rattle.second_search.specs.declared.Turn.TheVariants.{Smaller, Limit, Choose, Back}
+use Rattle.second_search.specs.declared.Turn.TheVariants.{Limit}
 use Rattle.second_search.specs.Looking.{turn_of}
 
 -- where one more choice is allowed no limit is met

@@ -4,11 +4,11 @@ use native.Mathlib.Omega.{arith}
 use mathlib.Core.Path.{◌≡◌, refl, sym, ap, ◌∙◌, fun_ext}
 use mathlib.Core.Logic.{◌≢◌, ◌⊎◌, inl, inr}
 use mathlib.Core.Bool.{Bool, true, false}
-use mathlib.Core.Option.{Option, none, some}
-use Rattle.meaning.specs.Cond.{if_lt, if_eq}
+use mathlib.Core.Option.{none}
+use Rattle.meaning.specs.Cond.{if_lt}
 use Rattle.meaning.specs.Aggregates.{Atoms}
 use Rattle.meaning.proofs.Cond.{if_lt_yes, if_lt_no, if_eq_yes, if_eq_no, eq_case, lt_case}
-use Rattle.interpretation.specs.State.{Cell, undefined, defined, put}
+use Rattle.interpretation.specs.State.{undefined, defined, put}
 use Rattle.search.specs.Search.{pinned_cell}
 use Rattle.smaller.specs.Smaller.{given, others}
 use Rattle.second_search.specs.Looking.{start_cells}

@@ -9,15 +9,14 @@ use mathlib.Core.List.{List, map}
 use lib.Dec.{ltb}
 use Rattle.meaning.specs.Cond.{if_lt}
 use Rattle.meaning.specs.Aggregates.{Atoms}
-use Rattle.meaning.specs.Program.{Program, AtomsIn}
+use Rattle.meaning.specs.Program.{Program}
 use Rattle.meaning.specs.Answers.{reduct}
-use Rattle.meaning.proofs.Tools.{clash}
 use Rattle.levels.specs.Levels.{Levels, up_to}
-use Rattle.interpretation.specs.State.{Cell, Interpretation, lowest, true_atoms, with_cells}
+use Rattle.interpretation.specs.State.{Interpretation, lowest, true_atoms, with_cells}
 use Rattle.interpretation.specs.View.{valued}
 use Rattle.steps.specs.Steps.{Verdict, settled, conflict, is_settled, passes, begin}
 use Rattle.steps.proofs.Indep.{passes_cells, passes_verdict}
-use Rattle.search.specs.Search.{Problem, Tested, State, Outcome, Next, go, end, plain, answer, no_answer, limit, opened_as, jumped_as, go_back_by, choosing_by, ended, spend, tested, choose, settle, propagated, turn}
+use Rattle.search.specs.Search.{Problem, State, Outcome, Next, go, end, plain, answer, no_answer, limit, opened_as, jumped_as, go_back_by, choosing_by, ended, spend, tested, choose, settle, propagated, turn}
 use Rattle.search.specs.Base.{verdict_of}
 use Rattle.search.specs.Engine.{no_reasons}
 use Rattle.search.proofs.Fuel.{meas}

@@ -12,11 +12,11 @@ use lib.IntN.{ℤ}
 use Rattle.meaning.specs.Aggregates.{Atoms}
 use Rattle.meaning.specs.Program.{Rule, Program}
 use Rattle.meaning.specs.Answers.{body, reduct}
-use Rattle.levels.specs.Levels.{Levels, no_levels}
+use Rattle.levels.specs.Levels.{Levels}
 use Rattle.interpretation.specs.State.{Cell, defined, put}
 use Rattle.interpretation.specs.View.{valued}
 use Rattle.layout.specs.Layout.{rule_at}
-use Rattle.steps.specs.Steps.{Verdict, settled, conflict, Work, set, refuted, if_settled, step_rule, rule_reason, rule_pass, pass, passes}
+use Rattle.steps.specs.Steps.{Verdict, settled, Work, set, refuted, if_settled, rule_reason, rule_pass, pass, passes}
 use Rattle.rules.specs.declared.Step.{Step}
 use Rattle.rules.specs.declared.Step.TheVariants.{Nothing, Conflict, Set}
 use Rattle.rules.specs.Demand.{demand_of, did}

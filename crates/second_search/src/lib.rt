@@ -2,6 +2,7 @@
 // on the reduct's rules, the lowest undefined atom tried false first, stepping back one choice at a time, keeping all atoms not counting as smaller". No reasons
 // are kept: the plain search reads none. The candidate's values are lent. Meaning: crate `smaller`; how the code's arrays are read: `specs/Looking.antt`.
 #![tactic(auto)]
+
 ghost use Rattle.std.specs.Prelude.{◌≡◌, Bool, true, false, map, ◌≤◌, suc, ltb};
 ghost use Rattle.meaning.specs.Answers.{body, reduct};
 ghost use Rattle.interpretation.specs.State.{AllDefined, true_atoms, lowest};

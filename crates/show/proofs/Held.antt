@@ -1,12 +1,11 @@
 -- What an accepted table holds, read in place, is what its words hold; and what reading a table says of its words. Assumes nothing.
 use mathlib.Core.Path.{◌≡◌, refl, sym, ap, ◌∙◌, subst}
 use mathlib.Core.List.{List, [], ◌∷◌, ◌++◌, map, append_assoc, append-nil}
-use Prim.Native.Nat.{ℕ, zero, suc, ◌+◌, ◌≤◌, ◌<◌}
+use Prim.Native.Nat.{ℕ, suc, ◌+◌, ◌<◌}
 use native.Mathlib.Omega.{arith}
 use lib.IntN.{ℤ, pos, nat_abs}
 use lib.ListN.{length, get_or, drop}
 use lib.Seq.{ext_get_or}
-use Rattle.meaning.specs.Program.{Aggregate}
 use Rattle.layout.specs.Layout as layout
 use Rattle.layout.specs.Layout.{part_at, pos_at, neg_at, aggs_at, past_rule, aggregate_at, start_from, Laid}
 use Rattle.layout.specs.declared.Table.{Table}

@@ -5,20 +5,19 @@ use mathlib.Core.List.{List, [], ◌∷◌, ◌++◌, map, append_assoc}
 use Prim.Native.Nat.{ℕ, zero, suc, ◌+◌, ◌-◌, ◌≤◌, ◌<◌}
 use native.Mathlib.Numerals.{add-one}
 use native.Mathlib.Omega.{arith}
-use borrow.Author.Tests.{le-leb, lt-leb}
 use lib.Dec.{leb}
 use lib.IntN.{ℤ, pos, nat_abs}
 use lib.ListN.{length, get_or, take, drop, drop_of_length-le}
 use lib.Seq.{drop-cons, length-take-le, get_or-take}
 use lib.Signed.{non_neg}
 use Rattle.meaning.specs.Program.{Aggregate}
-use Rattle.layout.specs.Layout.{nat_at, atoms, part_at, pos_at, neg_at, aggs_at, past_rule, function_by, comparison_by, pairs, pairs_at, past_aggregate, aggregate_at, start_from, AggregateLies, Laid}
+use Rattle.layout.specs.Layout.{nat_at, atoms, part_at, pos_at, neg_at, aggs_at, past_rule, function_by, comparison_by, pairs, pairs_at, past_aggregate, aggregate_at, Laid}
 use Rattle.layout.specs.declared.Table.{Table}
 use Rattle.table.specs.Contents.{NumberedRule, Contents, no_aggregate}
 use Rattle.text.specs.Line.{decimal}
 use Rattle.aspif_parts.specs.Held.{numbered_at, numbered_from, held_by}
-use Rattle.aspif_parts.proofs.Held.{numbered_on, numbered_none, held_aggregate, held_atoms, held_long, held_rules}
-use Rattle.notation.specs.Notation.{before, joined, comma, not_word, function_text, comparison_text, element_text, threshold_text, aggregate_text, name_text, literal_text, lists_text, rule_text, named_from, named, atoms_line, name_line, names_text, rule_line, rules_text, text_by, text_of, in_turn}
+use Rattle.aspif_parts.proofs.Held.{numbered_on, numbered_none, held_aggregate, held_long}
+use Rattle.notation.specs.Notation.{before, joined, comma, not_word, function_text, comparison_text, element_text, threshold_text, aggregate_text, name_text, literal_text, lists_text, rule_text, named_from, named, name_line, names_text, rule_line, rules_text, text_by, text_of, in_turn}
 
 -- ---- an aggregate
 

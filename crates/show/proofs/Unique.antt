@@ -7,7 +7,6 @@ use lib.IntN.{ℤ}
 use lib.ListN.{length}
 use Rattle.meaning.proofs.Cond.{lt_case}
 use Rattle.results.specs.declared.Written.{Written}
-use Rattle.table.specs.Contents.{Contents}
 use Rattle.table.specs.Grammar.{Outcome, accepted, refused_for, contents_of}
 use Rattle.notation.specs.Notation.{text_of}
 use Rattle.show.specs.Promise.{Laying, Shows}

@@ -3,6 +3,7 @@
 // cycle are shown too, so that one can see why they are refused. Meaning: `notation`, `specs/Notation.antt`, and `specs/Promise.antt`; that the promise
 // has one answer only: `proofs/Unique.antt`.
 #![tactic(auto)]
+
 ghost use Rattle.std.specs.Prelude.{◌≡◌, ◌++◌, ◌+◌, ◌<◌, ◌≤◌, length, get_or, take};
 ghost use Rattle.layout.specs.Layout.{Laid};
 ghost use Rattle.table.specs.Contents.{no_aggregate};

@@ -3,25 +3,25 @@ use mathlib.Core.Path.{◌≡◌, refl, sym, ap, ◌∙◌, subst}
 use mathlib.Core.Logic.{◌↔◌}
 use mathlib.Core.Bool.{Bool, true, false}
 use mathlib.Core.List.{List, [], ◌∷◌, ◌++◌, append-nil}
-use Prim.Native.Nat.{ℕ, zero, suc, ◌+◌, ◌≤◌, ◌<◌}
+use Prim.Native.Nat.{ℕ, suc, ◌+◌, ◌<◌}
 use native.Mathlib.Omega.{arith}
 use lib.Dec.{T}
 use lib.IntN.{ℤ, pos, nat_abs}
 use lib.ListN.{length, get_or, drop}
 use Rattle.results.specs.declared.Refusal.{Refusal}
-use Rattle.table.specs.Roles.{count, Format, word, read, run}
-use Rattle.table.specs.Contents.{Contents, InRange, encode}
+use Rattle.table.specs.Roles.{count, Format, word, run}
+use Rattle.table.specs.Contents.{Contents, encode}
 use Rattle.table.specs.Grammar.{table}
 use Rattle.table.proofs.Faults.{count_good}
 use Rattle.table.proofs.Run.{run_good, taken as takenWord}
 use Rattle.table.proofs.Complete.{table_reads}
 use Rattle.table.proofs.Whole.{table_sound}
-use Rattle.stored.specs.Bytes.{two, laid, sections, names_bytes, stored, Bytes, Short, no_names, named, Step, stop, go, step_of, Scan, refused, taken, scan, Names, nameless, names, names_of, Reading, refused_for, holds, ended, sections_after, names_after, read_bytes}
+use Rattle.stored.specs.Bytes.{two, laid, sections, names_bytes, stored, Bytes, Short, Step, stop, go, step_of, Scan, refused, taken, scan, Names, nameless, names, names_of, Reading, refused_for, holds, ended, sections_after, names_after, read_bytes}
 use Rattle.stored.specs.Restoring.{Encodes}
 use Rattle.stored.specs.declared.points.Asked.TheVariants as asked
 use Rattle.stored.specs.declared.points.Point.{Point}
 use Rattle.stored.specs.declared.points.Point.TheVariants as point
-use Rattle.stored.proofs.NumberLaws.{number_read, number_written, Read}
+use Rattle.stored.proofs.NumberLaws.{number_read, number_written}
 use Rattle.stored.proofs.Laying.{scan_laid, scan_written}
 use Rattle.stored.proofs.Leading.{sections_lead}
 use Rattle.stored.proofs.NameLaws.{names_read, names_written}

@@ -6,7 +6,6 @@ use mathlib.Core.List.{List, [], ◌∷◌, ◌++◌, append-nil}
 use mathlib.Core.Option.{none}
 use Prim.Native.Nat.{ℕ, zero, suc, ◌+◌, ◌-◌, ◌*◌, ◌≤◌, ◌<◌}
 use native.Mathlib.Omega.{arith}
-use native.Mathlib.Numerals.{add-one}
 use lib.IntN.{ℤ, pos, negsuc, neg_ℤ, nat_abs}
 use lib.ListN.{length, get_or, drop, length-drop, drop_of_length-le}
 use lib.Signed.{non_neg}
@@ -16,7 +15,6 @@ use Rattle.table.specs.Contents.{Contents, encode}
 use Rattle.table.specs.Grammar.{table, accepted, contents_of}
 use Rattle.table.proofs.Accepted.{accepted_encoding}
 use Rattle.table.proofs.Complete.{table_reads}
-use Rattle.table.proofs.Faults.{count_good}
 use Rattle.table.proofs.Run.{run_done, run_absent, run_length, read≢refused, same_words, taken as takenWord}
 use Rattle.bytes_out.specs.Putting.{Put}
 use Rattle.bytes_out.proofs.Laws.{Left, left_start, left_step, left_done}

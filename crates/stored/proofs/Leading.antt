@@ -1,19 +1,18 @@
 -- The points follow the grammar: from the first point on, the code asks for the numbers that the sections of a table ask for. Assumes nothing.
 use mathlib.Core.Path.{◌≡◌, refl, sym, ap, ◌∙◌, subst}
 use mathlib.Core.Bool.{Bool, true, false}
-use mathlib.Core.List.{List, [], ◌∷◌, map}
-use mathlib.Core.Option.{none}
+use mathlib.Core.List.{List, ◌∷◌, map}
 use Prim.Native.Nat.{ℕ, zero, suc, ◌≤◌}
 use native.Mathlib.Omega.{arith}
-use lib.IntN.{ℤ, pos, negsuc, nat_abs}
+use lib.IntN.{ℤ, nat_abs}
 use lib.ListN.{length}
 use Rattle.meaning.specs.Program.{Element, Aggregate}
-use Rattle.table.specs.Roles.{Role, count, quantity, member, fault, Format, done, word, ◌>>=◌}
+use Rattle.table.specs.Roles.{count, member, Format, done, word, ◌>>=◌}
 use Rattle.table.specs.Contents.{NumberedRule, Contents}
-use Rattle.table.specs.Grammar.{one, times, members, list, atoms, elements, aggregate, rule, aggregates, rules}
+use Rattle.table.specs.Grammar.{times, members, list, atoms, elements, aggregate, rule, aggregates, rules}
 use Rattle.table.proofs.Faults.{count_good}
 use Rattle.stored.specs.Bytes.{sections}
-use Rattle.stored.specs.Machine.{aggregate_next, element_next, rule_next, list_next, member_next, point_after, most_by, member_by, asked_at, role_of, Fits, Leads}
+use Rattle.stored.specs.Machine.{aggregate_next, element_next, rule_next, list_next, member_next, point_after, most_by, member_by, role_of, Fits, Leads}
 use Rattle.stored.specs.declared.points.Point.{Point}
 use Rattle.stored.specs.declared.points.Point.TheVariants as point
 

@@ -2,7 +2,7 @@
 use mathlib.Core.Path.{◌≡◌, refl, sym, ap, ◌∙◌, subst}
 use mathlib.Core.Bool.{Bool, true, false, ◌||◌}
 use mathlib.Core.List.{List, [], ◌∷◌, ◌++◌, append_assoc}
-use Prim.Native.Nat.{ℕ, zero, suc, ◌+◌, ◌≤◌, ◌<◌}
+use Prim.Native.Nat.{ℕ, zero, suc, ◌+◌, ◌≤◌}
 use native.Mathlib.Omega.{arith}
 use lib.Dec.{T, leb, ltb}
 use lib.IntN.{ℤ, pos, nat_abs}
@@ -10,12 +10,11 @@ use lib.ListN.{length, take, drop, length-append, length-take, take-append-drop}
 use lib.Seq.{take-append_seam, drop-append_seam}
 use borrow.Author.Tests.{le-leb, leb-true, lt-ltb}
 use Rattle.results.specs.declared.Refusal.{Refusal}
-use Rattle.results.specs.declared.Refusal.TheVariants as refusal
 use Rattle.table.specs.Roles.{count}
 use Rattle.table.proofs.Faults.{count_in_lem, count_good}
 use Rattle.stored.specs.Bytes.{two, Bytes, Short, no_names, named, names_bytes, Step, stop, go, step_of, Name, unread, name, name_by, name_after, name_of, Names, nameless, names, name_first, names_of}
 use Rattle.stored.specs.declared.points.Asked.TheVariants as asked
-use Rattle.stored.proofs.NumberLaws.{number_read, number_written, Read}
+use Rattle.stored.proofs.NumberLaws.{number_read, number_written}
 
 -- ---- walks
 

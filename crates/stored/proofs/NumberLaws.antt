@@ -11,7 +11,7 @@ use lib.Signed.{le_z, non_neg}
 use borrow.Author.Tests.{leb-true}
 use Rattle.results.specs.declared.Refusal.{Refusal}
 use Rattle.results.specs.declared.Refusal.TheVariants as refusal
-use Rattle.table.specs.Roles.{Role, count, quantity, member, numbers, unless, fault, word, within}
+use Rattle.table.specs.Roles.{Role, count, quantity, member, numbers, unless, fault, within}
 use Rattle.table.proofs.Faults.{count_good, quantity_good, within_number, and_left, and_right, member_good}
 use Rattle.stored.specs.Bytes.{two, four, complement, from_complement, twice, from_twice, number_bytes, Bytes, Number, cut, whole, two_of, four_of, Step, stop, go, tested, step_by, step_of}
 use Rattle.stored.specs.Machine.{role_of, Fits}

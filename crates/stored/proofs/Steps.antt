@@ -8,7 +8,7 @@ use Prim.Native.Nat.{ℕ, zero, suc, ◌+◌, ◌-◌, ◌*◌, ◌/◌, ◌%◌
 use native.Mathlib.Omega.{arith}
 use borrow.Author.Tests.{lt-ltb, le-ltb, eq-eqb, ne_eqb}
 use lib.Dec.{eqb}
-use lib.IntN.{ℤ, pos, negsuc, neg_ℤ, nat_abs}
+use lib.IntN.{ℤ, pos, negsuc, neg_ℤ}
 use lib.ListN.{length, get_or, drop}
 use lib.Signed.{non_neg}
 use Rattle.meaning.proofs.Cond.{if_lt_yes, if_lt_no, if_eq_yes, if_eq_no, eq_case, lt_case}
@@ -16,9 +16,8 @@ use Rattle.results.specs.declared.Refusal.{Refusal}
 use Rattle.results.specs.declared.Refusal.TheVariants as refusal
 use Rattle.table.specs.Roles.{Role, count, quantity, member, fault}
 use Rattle.table.proofs.Faults.{count_over, count_in_lem, quantity_low, quantity_high, quantity_in, quantity_within, within_plain, member_zero, member_over, member_falls, member_in}
-use Rattle.stored.specs.Bytes.{from_complement, from_twice, Number, cut, whole, two_of, four_of, Step, stop, go, tested, step_by, step_of}
+use Rattle.stored.specs.Bytes.{from_complement, from_twice, Number, whole, two_of, four_of, Step, stop, tested, step_by, step_of}
 use Rattle.stored.specs.Machine.{got_of}
-use Rattle.stored.specs.declared.numbers.Got.{Got}
 use Rattle.stored.specs.declared.numbers.Got.TheVariants as got
 use Rattle.stored.proofs.Forms.{two_there, four_there, two_cut, four_cut, from_twice_size}
 

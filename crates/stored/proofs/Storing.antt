@@ -1,8 +1,8 @@
 -- The promise of `store`, refused and accepted. Assumes nothing.
 use mathlib.Core.Path.{◌≡◌, refl, sym, ap, ◌∙◌, subst}
-use mathlib.Core.Logic.{◌⊎◌, inl, inr, ◌↔◌}
+use mathlib.Core.Logic.{◌⊎◌, inl, inr}
 use mathlib.Core.Bool.{Bool, true, false}
-use mathlib.Core.List.{List, [], ◌∷◌, ◌++◌}
+use mathlib.Core.List.{List, ◌++◌}
 use Prim.Native.Nat.{ℕ, ◌≤◌, ◌<◌}
 use native.Mathlib.Omega.{arith}
 use lib.IntN.{ℤ}
@@ -22,10 +22,9 @@ use Rattle.table.proofs.Accepted.{accepted_encoding}
 use Rattle.judging.specs.declared.Buffer.TheVariants.{Nothing}
 use Rattle.judging.specs.Refusals.{Accepted, Refused}
 use Rattle.judging.proofs.Refusals.{accepted_unique, refused_not_accepted, refused_unique}
-use Rattle.stored.specs.Bytes.{stored, no_names, holds, read_bytes}
+use Rattle.stored.specs.Bytes.{no_names, holds, read_bytes}
 use Rattle.stored.specs.Machine.{Laying}
 use Rattle.stored.specs.Promises.{plainly, StoreRefused, before, short, Stores}
-use Rattle.stored.specs.Restoring.{Encodes}
 use Rattle.stored.proofs.Exact.{encodes_held}
 use Rattle.stored.proofs.NameLaws.{empty_short, empty_length}
 

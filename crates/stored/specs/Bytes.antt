@@ -5,7 +5,7 @@
 --   step_of role i bs      the number of this role at the front of the bytes bs, whose first has place i; or the refusal
 --   read_bytes bs          the words and the names that the bytes hold, or 02's refusal: numbers from the left, then 3
 -- Assumes nothing.
-use Rattle.std.specs.Prelude.{◌≡◌, Bool, true, false, List, [], ◌∷◌, ◌++◌, ℕ, zero, suc, ◌+◌, ◌-◌, ◌*◌, ◌/◌, ◌%◌, ◌≤◌, ◌<◌, leb, eqb, ℤ, pos, negsuc, neg_ℤ, nat_abs, length, take, drop}
+use Rattle.std.specs.Prelude.{Bool, true, false, List, [], ◌∷◌, ◌++◌, ℕ, zero, suc, ◌+◌, ◌-◌, ◌*◌, ◌/◌, ◌%◌, ◌≤◌, ◌<◌, leb, ℤ, pos, negsuc, neg_ℤ, nat_abs, length, take, drop}
 use Rattle.std.proofs.Math.Option.{Option, none, some}
 use Rattle.meaning.specs.Cond.{if_lt, if_eq}
 use Rattle.results.specs.declared.Refusal.{Refusal}

@@ -4,10 +4,9 @@
 --   Leads top p F Q   the format F asks for the numbers that the points from p on ask for; where it is done, Q holds of what was made and of the point
 --   Fits a            what is asked fits its bytes
 -- Assumes nothing.
-use Rattle.std.specs.Prelude.{◌≡◌, Bool, true, false, not, List, [], ◌∷◌, ◌++◌, ℕ, zero, suc, ◌+◌, ◌≤◌, ◌<◌, ℤ, pos, negsuc, neg_ℤ, nat_abs, length, drop}
+use Rattle.std.specs.Prelude.{◌≡◌, Bool, true, false, not, List, ◌++◌, ℕ, zero, suc, ◌≤◌, ◌<◌, ℤ, pos, negsuc, neg_ℤ, nat_abs, length, drop}
 use Rattle.std.proofs.Math.Option.{none}
 use Rattle.std.specs.Int.Signed.{non_neg}
-use Rattle.results.specs.declared.Refusal.{Refusal}
 use Rattle.results.specs.declared.Refusal.TheVariants.{ShortBuffer}
 use Rattle.results.specs.declared.Written.{Written}
 use Rattle.results.specs.declared.Written.TheVariants as result

@@ -3,6 +3,7 @@
 // own or lent, where they are judged, so that a refusal leaves the buffer as it is. Meaning: `specs/Bytes.antt`, `specs/Promises.antt`, `specs/Restoring.antt`; that
 // each promise has one answer only: `proofs/Unique.antt`; that bytes are read exactly if they were stored: `proofs/Exact.antt`.
 #![tactic(auto)]
+
 ghost use Rattle.std.specs.Prelude.{◌≡◌, length};
 ghost use Rattle.stored.specs.Machine.{Held, Storing};
 ghost use Rattle.stored.specs.Promises.{Stores};

@@ -1,6 +1,7 @@
 // What a turn of the search asks after its propagation (01, "Reasons and jumps"): which atom is next, what the final test says, what is to be done, and
 // where a conflict leads. All of it is asked through lent values; nothing here changes the state. Meaning: `specs/Turns.antt`.
 #![tactic(auto)]
+
 ghost use Rattle.std.specs.Prelude.{◌≡◌, ◌-◌, ◌≤◌, max, ltb};
 ghost use Rattle.levels.specs.View.{row};
 ghost use Rattle.interpretation.specs.State.{lowest, true_atoms, AllDefined};

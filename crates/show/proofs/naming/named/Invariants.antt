@@ -1,0 +1,13 @@
+-- `show::naming::named` meets its contract. The invariant of its loop: the least number from here on is the least from 0 on. Assumes nothing.
+use mathlib.Core.Path.{◌≡◌}
+use Prim.Native.Nat.{◌-◌, ◌≤◌}
+use Rattle.aspif_parts.specs.Held.{held_by}
+use Rattle.notation.specs.Notation.{named_from, named}
+use Rattle.show.proofs.naming.named.Given as goal
+
+abbrev pub invariant-loop-d : goal.invariant-loop-d
+invariant-loop-d l =
+    (l.d ≤ l.tb.aggregates) × (named_from (held_by l.t l.tb) l.d (l.tb.aggregates - l.d) ≡ named (held_by l.t l.tb))
+
+abbrev pub decreases-loop-d : goal.decreases-loop-d
+decreases-loop-d l = l.tb.aggregates - l.d

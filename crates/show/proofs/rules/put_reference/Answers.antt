@@ -1,0 +1,15 @@
+-- `show::rules::put_reference` meets its contract. Assumes nothing.
+use Prim.Native.Nat.{◌-◌}
+use native.Mathlib.Omega.{arith}
+use borrow.Author.Tests.{lt-leb}
+use Rattle.show.proofs.Texts.{aggregate_is}
+use Rattle.show.proofs.rules.put_reference.Goals as goal
+
+pub returns : goal.returns
+returns c =
+    let args = c.args in
+    let pre = c.requires in
+    let at-if1 = c.if-j-d in
+    let at-start = c.start in
+    let at-put-aggregate = c.put_aggregate in
+    rw (lt-leb args.j args.d at-if1.false) (rw (aggregate_is args.t.now args.tb pre.0 (args.j - 1) at-start.result (omega (arith, pre.1, pre.2)) at-start.ensures) at at-put-aggregate.ensures)

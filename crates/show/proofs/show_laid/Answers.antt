@@ -1,0 +1,47 @@
+-- `show::show_laid` meets its contract: the first text found the length, the second is laid only where it has room. Assumes nothing.
+use mathlib.Core.Path.{◌≡◌, refl, ap, ◌∙◌}
+use Prim.Native.Nat.{ℕ}
+use native.Mathlib.Omega.{arith}
+use Rattle.results.specs.declared.Written.TheVariants as result
+use Rattle.bytes_out.proofs.Laws.{put_length, put_whole}
+use Rattle.aspif_parts.specs.Held.{held_by}
+use Rattle.notation.specs.Notation.{text_by, text_of}
+use Rattle.show.proofs.Texts.{named_most, text_is}
+use Rattle.show.proofs.show_laid.Goals as goal
+
+pub put_text-length-requires : goal.put_text-length-requires
+put_text-length-requires c =
+    let pre = c.requires in
+    let args = c.args in
+    let at_named = c.named-d in
+    rw at_named.ensures (pre, named_most args.t.now args.tb)
+
+pub returns-then-text-length : goal.returns-then-text-length
+returns-then-text-length c =
+    let same : text_by c.named-d.result (held_by c.args.t.now c.args.tb) ≡ text_of (held_by c.args.t.now c.args.tb) =
+    let args = c.args in
+    let at_named = c.named-d in
+    ap (λ (d : ℕ). text_by d (held_by args.t.now args.tb)) at_named.ensures ∙ text_is args.t.now args.tb in
+    let at-put-text = c.put_text-length in
+    let at-if1 = c.if-text-length in
+    let q = rw (same) at at-put-text.ensures in
+    let m = q.ends in record { fits = λ h. absurd (omega (arith, at-if1.true)); short = λ h. (refl, refl) }
+
+pub put_text-wrote-requires : goal.put_text-wrote-requires
+put_text-wrote-requires c =
+    let pre = c.requires in
+    let args = c.args in
+    let at_named = c.named-d in
+    rw at_named.ensures (pre, named_most args.t.now args.tb)
+
+pub returns : goal.returns
+returns c =
+    let same : text_by c.named-d.result (held_by c.args.t.now c.args.tb) ≡ text_of (held_by c.args.t.now c.args.tb) =
+    let args = c.args in
+    let at_named = c.named-d in
+    ap (λ (d : ℕ). text_by d (held_by args.t.now args.tb)) at_named.ensures ∙ text_is args.t.now args.tb in
+    let at-put-text = c.put_text-length in
+    let at-if1 = c.if-text-length in
+    let at-put-text2 = c.put_text-wrote in
+    let m = (rw (same) at at-put-text.ensures).ends in
+    let q = rw (same) at at-put-text2.ensures in let k = at-if1.false in record { fits = λ h. (ap result.Wrote (put_length q h), put_whole q h); short = λ h. absurd (omega arith) }
