@@ -1,8 +1,7 @@
 -- From the one computed test to the entry point: whatever meets `solve`'s promise on a case's words, with its limit and any buffer of at least 256 bytes, shows
 -- what 01 says. Assumes nothing.
-use mathlib.Core.Path.{◌≡◌, refl, sym, ◌∙◌, ap, subst}
-use mathlib.Core.Bool.{Bool, true, false, cond, ◌&&◌}
-use mathlib.Core.Option.{Option, some}
+use mathlib.Core.Path.{◌≡◌, refl, sym, ◌∙◌, ap}
+use mathlib.Core.Bool.{Bool, true, false, cond}
 use mathlib.Core.List.{List, [], ◌∷◌, ◌++◌}
 use Prim.Native.Nat.{ℕ, zero, suc, ◌+◌, ◌≤◌, ◌<◌}
 use native.Mathlib.Omega.{arith}
@@ -11,7 +10,6 @@ use lib.IntN.{ℤ}
 use lib.ListN.{length, get_or, drop}
 use borrow.Author.Tests.{leb-true}
 use Rattle.meaning.specs.Lists.{Is, ◌∈◌}
-use Rattle.meaning.specs.Cond.{if_lt}
 use Rattle.meaning.specs.Aggregates.{Atoms}
 use Rattle.meaning.specs.Foundedness.{same_list}
 use Rattle.meaning.proofs.Tools.{and_l, and_r, eq}
@@ -19,14 +17,14 @@ use Rattle.meaning.proofs.Cond.{if_lt_yes}
 use Rattle.results.specs.declared.Refusal.{Refusal}
 use Rattle.results.specs.declared.Solved.{Solved}
 use Rattle.results.specs.declared.Solved.TheVariants as solved
-use Rattle.results.specs.Results.{number_of, place_of, report_of}
+use Rattle.results.specs.Results.{number_of, place_of}
 use Rattle.results.proofs.Determined.{report_determines}
 use Rattle.table.specs.Contents.{Contents, program}
 use Rattle.table.specs.Grammar as grammar
 use Rattle.depend.specs.Cycles.{cycle_by}
 use Rattle.depend.specs.declared.Cycle.{Cycle}
 use Rattle.depend.specs.declared.Cycle.TheVariants as cycle
-use Rattle.search.specs.Search.{Result, answer, no_answer, limit, Outcome, jump, solve}
+use Rattle.search.specs.Search.{Result, answer, no_answer, limit, jump}
 use Rattle.search.specs.Shown.{true_list, shown_result, shown}
 use Rattle.judging.specs.declared.Buffer.TheVariants.{Plan}
 use Rattle.judging.specs.Refusals.{RefusedBy, table}

@@ -1,5 +1,5 @@
 -- The one computed test over the whole table of cases, and the law that hands out each entry. Assumes nothing.
-use mathlib.Core.Path.{◌≡◌, refl}
+use mathlib.Core.Path.{refl}
 use Rattle.meaning.specs.Lists.{Is, ◌∈◌, all, has}
 use Rattle.meaning.specs.Cond.{if_lt, if_eq}
 use Rattle.meaning.specs.Aggregates.{compared}

@@ -2,6 +2,7 @@
 // what they say and that the lent buffers do not overlap is all that a caller owes. Lent memory is an array of a fixed size, a plain pointer: nothing is said
 // of what it holds before or after, and no result depends on it. Meaning: `specs/Dock.antt`.
 #![tactic(auto)]
+
 ghost use Rattle.dock.specs.Dock.{Solves, Approves};
 
 use foundation::Candidates;

@@ -4,10 +4,10 @@ use Prim.Native.Nat.{ℕ, zero, suc, ◌≤◌, ◌<◌}
 use mathlib.Core.Path.{◌≡◌, refl, sym, ◌∙◌, ap, subst}
 use mathlib.Core.Logic.{◌≢◌, ◌⊎◌, inl, inr}
 use mathlib.Core.Bool.{Bool, true, false, cond}
-use mathlib.Core.Option.{Option, none, some}
+use mathlib.Core.Option.{some}
 use native.Mathlib.Omega.{arith}
 use Rattle.meaning.specs.Cond.{if_lt, if_eq}
-use Rattle.meaning.specs.Program.{Program, In, AtomsIn}
+use Rattle.meaning.specs.Program.{Program, AtomsIn}
 use Rattle.meaning.proofs.Cond.{if_lt_yes, if_lt_no, if_eq_yes, if_eq_no, eq_case, lt_case}
 use Rattle.levels.specs.Levels.{Levels}
 use Rattle.interpretation.specs.State.{Cell, undefined, defined, Interpretation, unset, put, set_at, opened, undone, jumped, lowest, with_cells}

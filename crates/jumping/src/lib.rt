@@ -4,6 +4,7 @@
 // read: `specs/Jumping.antt`. What can be asked through lent values stands apart (crates `rules`, `support`, `turns`); what changes the state stands in
 // the loop of `search_by`, so that the reasons exist once.
 #![tactic(auto)]
+
 ghost use Rattle.layout.specs.Layout.{Laid};
 ghost use Rattle.heads.specs.Heads.{Listed, taking};
 ghost use Rattle.smaller.specs.Cyclic.{base_by};

@@ -2,6 +2,7 @@
 // caller. Meaning: `specs/Listing.antt`, and of the refusals crate `judging`; that the promise has one answer only: `proofs/Unique.antt`; that the
 // first row is what `solve` answers: `proofs/FirstRow.antt`.
 #![tactic(auto)]
+
 ghost use Rattle.std.specs.Prelude.{◌≡◌};
 ghost use Rattle.lister.specs.Listing.{Listing};
 ghost use Rattle.lister.specs.Telling.{result_of};

@@ -1,6 +1,7 @@
 // The listing of every plan (request 7 of 02), over an accepted table: the search goes on after a plan "as after a conflict whose reason is all present levels". Meaning: crate
 // `search`, `specs/Listing.antt`; how the code's rows and struct are read: `specs/Rows.antt`.
 #![tactic(auto)]
+
 ghost use Rattle.std.specs.Prelude.{◌≡◌, ◌+◌, ◌*◌, ◌≤◌, ◌<◌, ◌/◌, length};
 ghost use Rattle.interpretation.specs.State.{unset, true_atoms};
 ghost use Rattle.interpretation.specs.View.{view, valued, choices};

@@ -3,16 +3,16 @@ use mathlib.Core.Path.{◌≡◌, refl, sym, ◌∙◌, ap, fun_ext}
 use mathlib.Core.Bool.{Bool, true, false, not, ◌&&◌, ◌||◌}
 use mathlib.Core.Option.{Option, none, some}
 use mathlib.Core.List.{List, [], ◌∷◌}
-use Prim.Native.Nat.{ℕ, zero, suc, ◌+◌, ◌-◌, ◌*◌, ◌≤◌, ◌<◌, max}
+use Prim.Native.Nat.{ℕ, suc, ◌+◌, ◌-◌, ◌*◌, ◌≤◌, ◌<◌, max}
 use native.Mathlib.Numerals.{add-one}
 use native.Mathlib.Omega.{arith}
 use lib.Dec.{ltb, leb, leb-zero, leb-suc-zero, leb-suc-suc}
-use lib.IntN.{ℤ, pos, negsuc}
+use lib.IntN.{ℤ, negsuc}
 use lib.ListN.{length, drop}
 use Rattle.meaning.specs.Lists.{all, any, cons_if}
 use Rattle.layout.specs.Layout.{pairs}
-use Rattle.meaning.specs.Aggregates.{Atoms, values, total, join, least_of, most_of, value_of, compares, compared}
-use Rattle.meaning.specs.Program.{Element, Aggregate}
+use Rattle.meaning.specs.Aggregates.{values, total, join, least_of, most_of, value_of, compares, compared}
+use Rattle.meaning.specs.Program.{Element}
 use Rattle.meaning.specs.declared.Function.{Function}
 use Rattle.meaning.specs.declared.Function.TheVariants.{Count, Sum, Min, Max}
 use Rattle.meaning.specs.declared.Comparison.{Comparison}
@@ -22,7 +22,7 @@ use Rattle.interpretation.specs.State.{Cell, undefined, defined}
 use Rattle.interpretation.specs.View.{cell_value}
 use Rattle.interpretation.specs.declared.Value.{Value}
 use Rattle.interpretation.specs.declared.Value.TheVariants.{True, False, Undefined}
-use Rattle.valuing.specs.Values.{lowest_of, highest_of, possibly, asks_each, between, decide, value_by, aggregate_value}
+use Rattle.valuing.specs.Values.{lowest_of, highest_of, possibly, asks_each, between, decide, aggregate_value}
 use Rattle.valuing.proofs.Compared.{of_each}
 use Rattle.literals.specs.declared.aggregates.Totals.{Totals}
 use Rattle.literals.specs.Elements.{Marks, limit_of, passes_by, weight_of, sum_of, added_by, totals_of, totals_value, marked_by, marks_of, marks_value}

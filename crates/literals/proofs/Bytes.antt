@@ -6,7 +6,7 @@ use mathlib.Core.List.{List}
 use Prim.Native.Nat.{ℕ, zero, suc, ◌+◌, ◌-◌, ◌*◌, ◌≤◌, ◌<◌}
 use native.Mathlib.Omega.{arith}
 use lib.Dec.{ltb, eqb}
-use borrow.Author.Tests.{eq-eqb, ne_eqb, lt-ltb, le-ltb}
+use borrow.Author.Tests.{ne_eqb, lt-ltb, le-ltb}
 use lib.IntN.{ℤ}
 use lib.ListN.{length, drop}
 use Rattle.layout.specs.Layout.{pairs}
@@ -19,7 +19,7 @@ use Rattle.valuing.specs.Values.{says_true, opposite, decide, possibly}
 use Rattle.valuing.specs.Settling.{is_false, is_defined}
 use Rattle.literals.specs.declared.aggregates.Totals.{Totals}
 use Rattle.literals.specs.Elements.{Marks, passes_by, part_of, added_by, marked_by, marks_of, marks_value}
-use Rattle.literals.proofs.Pairs.{pair_at, pairs_whole}
+use Rattle.literals.proofs.Pairs.{pair_at}
 use Rattle.literals.proofs.Amounts.{marks_down}
 
 -- ---- one byte

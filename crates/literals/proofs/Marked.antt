@@ -5,7 +5,7 @@
 -- Assumes nothing.
 use mathlib.Core.Path.{◌≡◌, refl, sym, ◌∙◌, ap, ap₂, subst}
 use mathlib.Core.Logic.{◌⊎◌, inl, inr}
-use mathlib.Core.Bool.{Bool, true, false, cond, not, ◌&&◌, ◌||◌}
+use mathlib.Core.Bool.{Bool, true, false, not, ◌&&◌, ◌||◌}
 use mathlib.Core.List.Memᴰ
 use mathlib.Core.List.{List, [], ◌∷◌}
 use Prim.Native.Nat.{ℕ, ◌+◌, ◌-◌, ◌≤◌, ◌<◌}
@@ -17,8 +17,8 @@ use Rattle.meaning.specs.Lists.{Is, ◌∈◌, any, has}
 use Rattle.meaning.specs.Program.{Element}
 use Rattle.meaning.specs.declared.Comparison.{Comparison}
 use Rattle.meaning.proofs.Cond.{lt_case}
-use Rattle.meaning.proofs.Tools.{clash, cases, not_is, and_l, and_r, contra, any_i, eq_i, has_i, has_e}
-use Rattle.interpretation.specs.State.{Cell, undefined, defined, truth_of}
+use Rattle.meaning.proofs.Tools.{clash, not_is, and_l, and_r, contra, any_i, eq_i, has_i, has_e}
+use Rattle.interpretation.specs.State.{Cell, undefined, defined}
 use Rattle.interpretation.specs.View.{bool_value, cell_value}
 use Rattle.interpretation.specs.declared.Value.{Value}
 use Rattle.interpretation.specs.declared.Value.TheVariants.{True, False, Undefined}

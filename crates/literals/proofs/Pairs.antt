@@ -1,17 +1,15 @@
 -- The pairs of value and atom of an aggregate that lies in the table, walked from the last to the first. Assumes nothing.
 use mathlib.Core.Path.{◌≡◌, refl, sym, ◌∙◌, ap, subst}
 use mathlib.Core.Logic.{◌⊎◌, inl, inr}
-use mathlib.Core.Bool.{Bool, true, false}
 use mathlib.Core.List.{List, [], ◌∷◌}
 use Prim.Native.Nat.{ℕ, zero, suc, ◌+◌, ◌-◌, ◌*◌, ◌/◌, ◌≤◌, ◌<◌}
-use native.Mathlib.Numerals.{add-one}
 use native.Mathlib.Omega.{arith}
 use lib.IntN.{ℤ, pos, negsuc, nat_abs}
 use lib.ListN.{length, get_or, take, drop, drop_of_length-le}
 use lib.Seq.{drop-cons, get_or-take, get_or-drop}
 use Rattle.meaning.proofs.Cond.{lt_case}
 use Rattle.meaning.specs.Program.{Element}
-use Rattle.layout.specs.Layout.{nat_at, pairs, pairs_at, past_aggregate, start_from, AggregateLies, Laid, Members}
+use Rattle.layout.specs.Layout.{nat_at, pairs, pairs_at, start_from, AggregateLies, Laid, Members}
 use Rattle.layout.specs.declared.Table.{Table}
 use Rattle.literals.specs.Elements.{Paired}
 

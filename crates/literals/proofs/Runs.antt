@@ -3,24 +3,21 @@
 -- Assumes nothing.
 use mathlib.Core.Path.{◌≡◌, refl, sym, ◌∙◌, ap, ap₂, fun_ext}
 use mathlib.Core.Logic.{◌⊎◌, inl, inr}
-use mathlib.Core.Bool.{Bool, true, false, cond, not, ◌&&◌, ◌||◌, beq}
+use mathlib.Core.Bool.{Bool, true, false, cond, ◌||◌, beq}
 use mathlib.Core.List.{List, [], ◌∷◌, ◌++◌}
-use Prim.Native.Nat.{ℕ, ◌+◌, ◌-◌, ◌≤◌, ◌<◌}
+use Prim.Native.Nat.{ℕ, ◌+◌, ◌-◌}
 use native.Mathlib.Omega.{arith}
-use lib.Dec.{eqb}
-use lib.IntN.{ℤ}
-use Rattle.meaning.specs.Lists.{Is, ◌∈◌, any, cons_if}
+use Rattle.meaning.specs.Lists.{Is, cons_if}
 use Rattle.meaning.specs.Program.{Element, Aggregate}
 use Rattle.meaning.specs.declared.Comparison.{Comparison}
-use Rattle.meaning.specs.declared.Function.{Function}
 use Rattle.meaning.proofs.Tools.{clash, cases}
-use Rattle.levels.specs.Levels.{Levels, no_levels, union}
+use Rattle.levels.specs.Levels.{Levels, union}
 use Rattle.interpretation.specs.State.{Cell, undefined, defined, truth_of}
 use Rattle.valuing.specs.Settling.{is_false, is_defined, atoms_that, settling_of}
 use Rattle.valuing.specs.Reasons.{reasons_at}
 use Rattle.valuing.specs.Walk.{adds, weight, add_if, drop_if, worth, whole, alike, Step, walk, keeps, true_step, false_step, settling_walk, atoms_differ}
 use Rattle.valuing.proofs.Walk.{append_nil, atoms_snoc, walk_law}
-use Rattle.literals.specs.Elements.{limit_of, passes_by, weight_of, part_of}
+use Rattle.literals.specs.Elements.{limit_of, weight_of, part_of}
 use Rattle.literals.specs.Settled.{join_if, of_sign, alike_by, whole_of, bound_by, Told, pick_told, run_of, or_else, adds_of}
 use Rattle.literals.proofs.Together.{union_assoc, union_none, union_swap}
 use Rattle.literals.proofs.Amounts.{passes_limit}

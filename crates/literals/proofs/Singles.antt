@@ -6,7 +6,7 @@ use mathlib.Core.Path.{◌≡◌, refl, sym, ◌∙◌, ap, ap₂}
 use mathlib.Core.Logic.{◌⊎◌, inl, inr}
 use mathlib.Core.Bool.{Bool, true, false, cond, not, ◌&&◌, ◌||◌}
 use mathlib.Core.List.Memᴰ
-use mathlib.Core.List.{List, [], ◌∷◌, ◌++◌, map}
+use mathlib.Core.List.{List, [], ◌∷◌, ◌++◌}
 use Prim.Native.Nat.{ℕ, ◌-◌}
 use lib.IntN.{ℤ}
 use lib.ListN.{length}
@@ -16,10 +16,10 @@ use Rattle.meaning.specs.declared.Comparison.{Comparison}
 use Rattle.meaning.specs.declared.Function.{Function}
 use Rattle.meaning.specs.declared.Function.TheVariants.{Count, Sum, Min, Max}
 use Rattle.meaning.proofs.Tools.{clash, cases, contra}
-use Rattle.levels.specs.Levels.{Levels, no_levels, union}
+use Rattle.levels.specs.Levels.{Levels, union}
 use Rattle.interpretation.specs.State.{Cell, undefined, defined, truth_of}
 use Rattle.interpretation.specs.declared.Value.{Value}
-use Rattle.valuing.specs.Values.{says_undefined, possibly, asks_each, aggregate_value}
+use Rattle.valuing.specs.Values.{says_undefined, possibly, asks_each}
 use Rattle.valuing.specs.Settling.{restricted, settles, is_false, is_defined, atoms_that, singles, tried, first_that, settling_of}
 use Rattle.valuing.specs.Reasons.{reasons_at}
 use Rattle.valuing.specs.Walk.{adds, atoms_differ}

@@ -5,7 +5,7 @@ use mathlib.Core.Path.{◌≡◌, refl, sym, ◌∙◌, ap, fun_ext}
 use mathlib.Core.Bool.{Bool, true, false, cond, ◌||◌}
 use mathlib.Core.Option.{Option, none, some}
 use mathlib.Core.List.{List, [], ◌∷◌, ◌++◌, map}
-use Prim.Native.Nat.{ℕ, zero, suc, ◌+◌}
+use Prim.Native.Nat.{ℕ, ◌+◌}
 use native.Mathlib.Omega.{arith}
 use lib.IntN.{ℤ, pos, nat_abs}
 use lib.ListN.{length, length-map, get_or, get_or-map}
@@ -16,7 +16,7 @@ use Rattle.interpretation.specs.View.{cell_value}
 use Rattle.interpretation.specs.declared.Value.{Value}
 use Rattle.interpretation.specs.declared.Value.TheVariants.{True, False, Undefined}
 use Rattle.layout.specs.Layout.{atoms, literal_of}
-use Rattle.valuing.specs.Values.{says_true, says_false, says_undefined, opposite, Lit, atom_lit, agg_lit, value}
+use Rattle.valuing.specs.Values.{says_true, says_false, says_undefined, opposite, Lit, atom_lit, agg_lit}
 use Rattle.valuing.specs.Reasons.{reason_at, reason_of, reasons_of}
 use Rattle.steps.specs.Steps.{first_of, count_of, or_else}
 use Rattle.literals.specs.Scan.{atom_lits, literal_lits, atoms_reason}

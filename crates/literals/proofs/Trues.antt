@@ -5,7 +5,7 @@ use mathlib.Core.Logic.{◌⊎◌, inl, inr}
 use mathlib.Core.Bool.{Bool, true, false, not, ◌||◌}
 use mathlib.Core.List.Memᴰ
 use mathlib.Core.List.{List, [], ◌∷◌}
-use Prim.Native.Nat.{ℕ, ◌-◌, ◌≤◌, ◌<◌}
+use Prim.Native.Nat.{ℕ, ◌-◌}
 use native.Mathlib.Omega.{arith}
 use lib.Dec.{ltb}
 use lib.ListN.{length}
@@ -17,10 +17,10 @@ use Rattle.meaning.proofs.Tools.{clash, cases, contra, has_i, has_e}
 use Rattle.interpretation.specs.State.{Cell, undefined, defined, truth_of}
 use Rattle.interpretation.specs.View.{cell_value}
 use Rattle.interpretation.specs.declared.Value.{Value}
-use Rattle.interpretation.specs.declared.Value.TheVariants.{True, False, Undefined}
+use Rattle.interpretation.specs.declared.Value.TheVariants.{True, Undefined}
 use Rattle.valuing.specs.Settling.{known_if, restricted, is_defined, atoms_that}
 use Rattle.valuing.proofs.Settling.{atoms_in_lem, atoms_from_lem}
-use Rattle.literals.specs.Elements.{Marks, passes_by, part_of, marked_by, marks_of}
+use Rattle.literals.specs.Elements.{Marks, part_of, marked_by, marks_of}
 use Rattle.literals.specs.Settled.{passing_of, alone_by, alone_at}
 use Rattle.literals.proofs.Marked.{settled_by, over, ltb_none, ok, failing_of, failing_is, passing_member, marks_by, marks_by_lem, marks_same}
 

@@ -1,20 +1,18 @@
 -- Lists of words walked by the code: literals from the first on, reasons from the last on. Assumes nothing.
 use mathlib.Core.Path.{◌≡◌, refl, sym, ◌∙◌, ap}
-use mathlib.Core.Bool.{Bool, true, false}
-use mathlib.Core.List.{List, [], ◌∷◌, map}
+use mathlib.Core.Bool.{true, false}
+use mathlib.Core.List.{List, ◌∷◌, map}
 use Prim.Native.Nat.{ℕ, zero, suc, ◌+◌, ◌-◌, ◌≤◌, ◌<◌}
 use native.Mathlib.Numerals.{add-one}
 use native.Mathlib.Omega.{arith}
 use lib.IntN.{ℤ, pos, nat_abs}
 use lib.ListN.{length, get_or, drop, drop_of_length-le}
 use lib.Seq.{drop-cons}
-use Rattle.meaning.proofs.Tools.{clash}
 use Rattle.levels.specs.Levels.{Levels, no_levels, union}
-use Rattle.interpretation.specs.State.{Cell, undefined}
+use Rattle.interpretation.specs.State.{Cell}
 use Rattle.interpretation.specs.View.{valued, cell_by}
 use Rattle.interpretation.proofs.Laws.{valued_at}
 use Rattle.interpretation.specs.declared.Value.{Value}
-use Rattle.interpretation.specs.declared.Value.TheVariants.{True, False, Undefined}
 use Rattle.layout.specs.Layout.{atoms}
 use Rattle.valuing.specs.Values.{says_false, Lit, value}
 use Rattle.valuing.specs.Reasons.{reason_at, reason_of, reasons_of}

@@ -5,7 +5,7 @@
 --   marks_of          min and max: whether some true element passes, some fails, and the same of those that could be true
 --   Paired w         the words of the pairs lie within 01's ranges
 -- Assumes nothing.
-use Rattle.std.specs.Prelude.{Bool, true, false, not, ◌&&◌, ◌||◌, List, ℕ, zero, suc, ◌+◌, ◌*◌, ◌≤◌, ◌<◌, ltb, leb, ℤ, pos, negsuc, nat_abs, length, get_or}
+use Rattle.std.specs.Prelude.{Bool, true, false, not, ◌&&◌, ◌||◌, List, ℕ, ◌+◌, ◌*◌, ◌≤◌, ◌<◌, ltb, leb, ℤ, pos, negsuc, nat_abs, length, get_or}
 use Rattle.layout.specs.Layout.{Plain}
 use Rattle.meaning.specs.Aggregates.{values, total}
 use Rattle.meaning.specs.Lists.{any}

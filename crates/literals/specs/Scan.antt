@@ -4,7 +4,7 @@
 --   first_false a s   At k: literal k, from 0, is the first false one; Nothing: none is false
 --   atoms_reason      the union of the reasons of a list's defined atoms
 -- Assumes nothing.
-use Rattle.std.specs.Prelude.{ℕ, zero, suc, Bool, true, false, List, [], ◌∷◌, map, ℤ, nat_abs}
+use Rattle.std.specs.Prelude.{ℕ, suc, Bool, true, false, List, [], ◌∷◌, map, ℤ}
 use Rattle.levels.specs.Levels.{Levels, no_levels, union}
 use Rattle.interpretation.specs.State.{Cell}
 use Rattle.layout.specs.Layout.{atoms, literal_of}

@@ -1,6 +1,7 @@
 // Literals of a rule, read from the table's words under the values of a partial interpretation: what they are, and why (01, "Propagation" and
 // "Reasons and jumps"). Meaning: crate `valuing`; how a list is walked: `specs/Scan.antt`. Nothing here writes.
 #![tactic(auto)]
+
 ghost use Rattle.std.specs.Prelude.{◌≡◌, Bool, not, ◌-◌, ◌≤◌, ◌<◌, T, nat_abs, pos, length, get_or};
 ghost use Rattle.std.specs.Int.Signed.{non_neg};
 ghost use Rattle.levels.specs.Levels.{union};

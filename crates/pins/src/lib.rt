@@ -3,6 +3,7 @@
 // words that no `open` made are read as. Meaning: `specs/Session.antt` and crate `sessions`; that each promise has one answer, and what the calls before a plan
 // come to: `proofs/Unique.antt`, `proofs/History.antt`.
 #![tactic(auto)]
+
 ghost use Rattle.std.specs.Prelude.{◌≡◌, Bool, length};
 ghost use Rattle.sessions.specs.Sessions.{pin, unpin};
 ghost use Rattle.meaning.specs.Cycles.{inside};

@@ -1,6 +1,7 @@
 // The plain engine (request 5 of 02): 01's search with no jump and no reason, to be read beside 01. One part opens a choice, the other tries a side of it,
 // each calling the other while fewer atoms stay undefined. Propagation: `passes.rt`. Meaning: `specs/`.
 #![tactic(auto)]
+
 ghost use Rattle.std.specs.Prelude.{◌≡◌, false};
 ghost use Rattle.plain.specs.Promise.{plain_counts, Plainly};
 ghost use Rattle.plain.specs.Plain.{Ready, Sided, Chosen, Testable, Tests};

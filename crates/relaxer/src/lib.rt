@@ -3,6 +3,7 @@
 // crate `judging`; that the promise has one answer only: `proofs/Unique.antt`. Each offer is a search of its own with the call's limit: at most one more than
 // there are constraints. With a small limit the call can end with limit where `solve` finds a plan: it is meant for use after "none".
 #![tactic(auto)]
+
 ghost use Rattle.std.specs.Prelude.{◌≡◌, not, cond, ◌||◌, ◌++◌, ◌∷◌, ◌+◌, ◌≤◌, ◌<◌, suc, length, set, drop};
 ghost use Rattle.meaning.specs.Program.{Program};
 ghost use Rattle.levels.specs.View.{row};

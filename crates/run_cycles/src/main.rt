@@ -3,6 +3,7 @@
 // would print, and `why` with an atom, its round and its rule for each atom that has a round or a rule. A checked plan has one: yes, no, or the refusal.
 // tools/cycles.py makes the cases and the lines of `stdout` from vectors of request 14.
 #![tactic(auto)]
+
 use libc::{STDIN_FILENO, STDOUT_FILENO};
 use results::{Ask, Checked, Solved};
 use rounds::Why;

@@ -2,6 +2,7 @@
 // bytes, low byte first. For each text the plain engine's line is printed; and then `differs`, where the jumping engine with the same limit says something else,
 // though the plain one has not met it. tools/plain.py makes the texts and the lines of `stdout`.
 #![tactic(auto)]
+
 use libc::{STDIN_FILENO, STDOUT_FILENO};
 use results::{Ask, Solved};
 use text::printer::print;

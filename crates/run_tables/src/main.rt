@@ -1,6 +1,7 @@
 // Prints, for each case on standard input, what the solver and the check say of it, a line a case. tools/cases.py makes the cases and, by
 // enumeration, the lines of `stdout`; it says what a case is and what its line has.
 #![tactic(auto)]
+
 mod input;
 mod output;
 

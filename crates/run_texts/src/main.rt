@@ -1,6 +1,7 @@
 // Prints, for each text on standard input, the line that the text program prints for it. tools/lines.py makes the texts and the lines of
 // `stdout`: a text comes after its length in bytes, four bytes, low byte first.
 #![tactic(auto)]
+
 use libc::{STDIN_FILENO, STDOUT_FILENO};
 
 // Room for a text of one byte too many.

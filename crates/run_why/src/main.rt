@@ -2,6 +2,7 @@
 // atom that has a round or a rule. tools/why.py makes the texts and the lines of `stdout` from vectors of request 1: a text comes after its length in bytes, four
 // bytes, low byte first.
 #![tactic(auto)]
+
 use libc::{STDIN_FILENO, STDOUT_FILENO};
 use results::{Ask, Solved};
 use rounds::Why;

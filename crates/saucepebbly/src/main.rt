@@ -1,5 +1,6 @@
 // The text program (01): standard input to one line on standard output. What the line says is `reply::line`'s contract.
 #![tactic(auto)]
+
 use libc::{STDIN_FILENO, STDOUT_FILENO};
 
 // One byte more than a text may have.

@@ -13,7 +13,6 @@ use Rattle.meaning.specs.Program.{Program, In, AtomsIn, Below}
 use Rattle.meaning.specs.Aggregates.{Atoms}
 use Rattle.meaning.specs.Answers.{model, AnswerSet}
 use Rattle.meaning.specs.Dependency.{AggregateCycle, Free}
-use Rattle.meaning.specs.Foundedness.{founded}
 use Rattle.meaning.proofs.Tools.{clash, and_i, and_r}
 use Rattle.meaning.proofs.Cond.{lt_case, if_lt_no}
 use Rattle.meaning.proofs.Theorem.{founded↔answer}
@@ -30,7 +29,7 @@ use Rattle.table.specs.Contents.{Contents, program}
 use Rattle.judging.specs.declared.Buffer.{Buffer}
 use Rattle.judging.specs.declared.Buffer.TheVariants.{Plan}
 use Rattle.depend.specs.Cycles.{HeadCycleBy}
-use Rattle.judging.specs.Refusals.{AcceptedBy, RefusedBy}
+use Rattle.judging.specs.Refusals.{AcceptedBy}
 use Rattle.judging.proofs.Refusals.{accepted_unique, refused_not_accepted, refused_unique}
 use Rattle.promises.specs.Plans.{plan_atoms}
 use Rattle.solver.specs.Approving.{CheckRefusedBy, before, byte, Bits, BadByte, ApprovingBy}

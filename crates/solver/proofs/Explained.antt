@@ -31,7 +31,7 @@ use Rattle.results.specs.declared.Solved.{Solved}
 use Rattle.results.specs.declared.Solved.TheVariants as solved
 use Rattle.rounds.specs.declared.Why.{Why}
 use Rattle.rounds.specs.Rounds.{no_whys, why_of, Recorded, Explained}
-use Rattle.rounds.proofs.Records.{recorded_one, answer_recorded}
+use Rattle.rounds.proofs.Records.{answer_recorded}
 use Rattle.search.proofs.Joined.{answer_range}
 use Rattle.search.proofs.Parts.{true_range}
 use Rattle.table.specs.Contents.{Contents, program}

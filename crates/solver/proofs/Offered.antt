@@ -8,12 +8,12 @@ use native.Mathlib.Omega.{arith}
 use native.Mathlib.Numerals.{add-one}
 use lib.Dec.{eqb, ltb}
 use lib.ListN.{get_or}
-use borrow.Author.Tests.{lt-ltb, le-ltb, ltb-true}
+use borrow.Author.Tests.{lt-ltb, le-ltb}
 use Rattle.meaning.specs.Cond.{if_lt}
-use Rattle.meaning.proofs.Cond.{if_lt_yes, if_lt_no, lt_case}
-use Rattle.interpretation.specs.State.{Cell, defined, truth_of, true_atoms, Defined, AllDefined}
+use Rattle.meaning.proofs.Cond.{if_lt_no, lt_case}
+use Rattle.interpretation.specs.State.{Cell, defined, truth_of, true_atoms}
 use Rattle.interpretation.specs.View.{cell_by, byte_of, valued}
-use Rattle.interpretation.proofs.Laws.{cells_suc, valued_at}
+use Rattle.interpretation.proofs.Laws.{cells_suc}
 use Rattle.promises.specs.Plans.{plan_atoms}
 use Rattle.solver.specs.Approving.{Bit, is_zero, is_one, Bits, BadByte}
 use Rattle.solver.specs.Plans.{bad_or, bad_from, Offers}

@@ -1,11 +1,11 @@
 -- Of the states that the search of an accepted table really reaches, in either mode: a conflict's reason names only present levels, so that the level to which the search jumps is the
 -- highest in the reason (01: "m, the highest in C"), and it is 0 exactly where the reason is empty; and the passes always end by themselves ("Passes repeat until one
 -- changes nothing or a conflict ends it"): the fuel of their definition is never spent. Assumes nothing.
-use mathlib.Core.Path.{◌≡◌, refl, sym, ◌∙◌, ap, subst}
-use mathlib.Core.Logic.{◌⊎◌, inl, inr, ◌↔◌}
+use mathlib.Core.Path.{◌≡◌, refl, ◌∙◌, ap, subst}
+use mathlib.Core.Logic.{◌↔◌}
 use mathlib.Core.Bool.{Bool, true, false}
 use mathlib.Core.List.{List, []}
-use Prim.Native.Nat.{ℕ, zero, suc, ◌-◌, ◌≤◌, ◌<◌}
+use Prim.Native.Nat.{ℕ, zero, suc, ◌-◌, ◌≤◌}
 use native.Mathlib.Omega.{arith}
 use lib.IntN.{ℤ}
 use Rattle.meaning.specs.Program.{AtomsIn}
@@ -14,7 +14,7 @@ use Rattle.levels.specs.Levels.{Levels, highest}
 use Rattle.levels.proofs.Laws.{highest_zero, highest_stop, highest_on}
 use Rattle.steps.specs.Steps.{conflict, passes, begin, Stopped}
 use Rattle.steps.proofs.Ending.{passes_end}
-use Rattle.search.specs.Search.{Problem, Mode, jump, State, go, turn, start}
+use Rattle.search.specs.Search.{Problem, Mode, jump, State, start}
 use Rattle.search.specs.Laws.{Laws, Within}
 use Rattle.smaller.specs.Cyclic.{base_by}
 use Rattle.smaller.proofs.Modes.{mode_base_laws}

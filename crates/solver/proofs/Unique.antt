@@ -14,7 +14,6 @@ use lib.ListN.{length}
 use Rattle.meaning.specs.Answers.{model, AnswerSet}
 use Rattle.meaning.proofs.Tools.{clash}
 use Rattle.meaning.proofs.Cond.{eq_case}
-use Rattle.results.specs.declared.Refusal.{Refusal}
 use Rattle.results.specs.declared.Checked.{Checked}
 use Rattle.results.specs.Results.{number_of, place_of, kind_of, Report}
 use Rattle.results.proofs.Determined.{report_determines, check_determines}

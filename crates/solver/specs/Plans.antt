@@ -6,7 +6,7 @@
 --   Offers               the values of an offered plan
 --   whys_for              the rounds and rules that come with a result, where those of the plan are w;  whys_by, by the mode
 -- Assumes nothing.
-use Rattle.std.specs.Prelude.{◌≡◌, Bool, true, false, not, List, [], ℕ, zero, suc, ltb, get_or}
+use Rattle.std.specs.Prelude.{◌≡◌, Bool, true, false, not, List, ℕ, zero, suc, ltb, get_or}
 use Rattle.meaning.specs.Aggregates.{Atoms}
 use Rattle.meaning.specs.Program.{Program}
 use Rattle.meaning.specs.Foundedness.{founded}

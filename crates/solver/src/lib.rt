@@ -1,6 +1,7 @@
 // The two entries of the base: `solve` and `approve` (01, "What comes back"). Neither asks anything of its caller. Meaning: `specs/`, one file for
 // each entry, and of the refusals crate `judging`; that each promise has one answer only: `proofs/Unique.antt`.
 #![tactic(auto)]
+
 ghost use Rattle.std.specs.Prelude.{◌≡◌, true, ◌≤◌, length};
 ghost use Rattle.meaning.specs.Answers.{model};
 ghost use Rattle.interpretation.specs.State.{true_atoms, AllDefined};

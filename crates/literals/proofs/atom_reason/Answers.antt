@@ -1,12 +1,7 @@
 -- `literals::atom_reason` meets its contract. Assumes nothing.
-use borrow.Author.Rules.{rules}
-use mathlib.Core.Path.{◌≡◌, refl, sym, ap, ◌∙◌}
-use mathlib.Core.List.{[]}
-use Prim.Native.Nat.{◌-◌}
-use native.Mathlib.Omega.{arith}
-use lib.ListN.{get_or}
+use mathlib.Core.Path.{sym, ap, ◌∙◌}
 use Rattle.levels.specs.Levels.{Levels, union}
-use Rattle.levels.specs.View.{row, rows}
+use Rattle.levels.specs.View.{row}
 use Rattle.levels.proofs.Laws.{rows_at}
 use Rattle.literals.proofs.Walks.{byte_undefined, byte_defined}
 use Rattle.literals.proofs.atom_reason.Goals as goal

@@ -1,8 +1,6 @@
 -- `literals::byte_at` meets its contract. Assumes nothing.
-use borrow.Author.Rules.{rules}
-use mathlib.Core.Path.{◌≡◌, refl, sym, ap, ◌∙◌}
+use mathlib.Core.Path.{sym, ap, ◌∙◌}
 use Prim.Native.Nat.{ℕ, ◌-◌}
-use native.Mathlib.Omega.{arith}
 use lib.IntN.{nat_abs, pos}
 use lib.ListN.{get_or}
 use Rattle.interpretation.specs.View.{cell_by}

@@ -1,15 +1,11 @@
 -- `literals::false_atom` meets its contract. Assumes nothing.
-use borrow.Author.Rules.{rules}
-use mathlib.Core.Path.{◌≡◌, refl, sym, ap, ◌∙◌}
-use mathlib.Core.Bool.{Bool, true, false}
-use Prim.Native.Nat.{ℕ, ◌+◌, ◌-◌, ◌≤◌, ◌<◌}
+use mathlib.Core.Path.{◌≡◌, sym, ap, ◌∙◌}
+use Prim.Native.Nat.{ℕ}
 use native.Mathlib.Omega.{arith}
-use lib.IntN.{ℤ, pos, nat_abs}
-use lib.ListN.{length, get_or, drop}
+use lib.IntN.{pos, nat_abs}
+use lib.ListN.{get_or}
 use Rattle.interpretation.specs.View.{valued, cell_value}
-use Rattle.interpretation.specs.declared.Value.{Value}
-use Rattle.valuing.specs.Values.{says_false, signed, atom_lit, value}
-use Rattle.literals.specs.Scan.{atom_lits, first_from, first_false}
+use Rattle.valuing.specs.Values.{signed, atom_lit, value}
 use Rattle.literals.proofs.Walks.{walk_on, walk_false, walk_end}
 use Rattle.literals.proofs.false_atom.Goals as goal
 

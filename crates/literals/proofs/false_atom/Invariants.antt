@@ -1,16 +1,9 @@
 -- `literals::false_atom` meets its contract. Assumes nothing.
-use borrow.Author.Rules.{rules}
-use mathlib.Core.Path.{◌≡◌, refl, sym, ap, ◌∙◌}
-use mathlib.Core.Bool.{Bool, true, false}
-use Prim.Native.Nat.{ℕ, ◌+◌, ◌-◌, ◌≤◌, ◌<◌}
-use native.Mathlib.Omega.{arith}
-use lib.IntN.{ℤ, pos, nat_abs}
-use lib.ListN.{length, get_or, drop}
-use Rattle.interpretation.specs.View.{valued, cell_value}
-use Rattle.interpretation.specs.declared.Value.{Value}
-use Rattle.valuing.specs.Values.{says_false, signed, atom_lit, value}
+use mathlib.Core.Path.{◌≡◌}
+use Prim.Native.Nat.{◌-◌, ◌≤◌}
+use lib.ListN.{length, drop}
+use Rattle.interpretation.specs.View.{valued}
 use Rattle.literals.specs.Scan.{atom_lits, first_from, first_false}
-use Rattle.literals.proofs.Walks.{walk_on, walk_false, walk_end}
 use Rattle.literals.proofs.false_atom.Given as goal
 
 abbrev pub invariant-loop-i : goal.invariant-loop-i

@@ -1,16 +1,9 @@
 -- `literals::false_literal` meets its contract. Assumes nothing.
-use borrow.Author.Rules.{rules}
-use mathlib.Core.Path.{◌≡◌, refl, sym, ap, ◌∙◌}
-use mathlib.Core.Bool.{Bool, true, false}
-use Prim.Native.Nat.{ℕ, ◌+◌, ◌-◌, ◌*◌, ◌/◌, ◌≤◌, ◌<◌}
+use mathlib.Core.Path.{sym, ◌∙◌}
 use native.Mathlib.Omega.{arith}
-use lib.IntN.{ℤ, pos, nat_abs}
-use lib.ListN.{length, get_or, drop}
-use Rattle.interpretation.specs.View.{valued, cell_value}
-use Rattle.layout.specs.Layout.{pairs}
-use Rattle.valuing.specs.Values.{says_false, agg_lit, value}
+use Rattle.interpretation.specs.View.{valued}
+use Rattle.valuing.specs.Values.{agg_lit}
 use Rattle.layout.specs.Layout.{literal_of}
-use Rattle.literals.specs.Scan.{literal_lits, first_from, first_false}
 use Rattle.literals.proofs.Walks.{walk_on, walk_false, walk_end}
 use Rattle.literals.proofs.false_literal.Goals as goal
 

@@ -1,22 +1,14 @@
 -- `literals::literal_reason` meets its contract. Assumes nothing.
-use borrow.Author.Rules.{rules}
-use mathlib.Core.Path.{◌≡◌, refl, sym, ap, ◌∙◌}
-use mathlib.Core.Bool.{Bool, true, false}
-use Prim.Native.Nat.{ℕ, ◌+◌, ◌-◌, ◌≤◌, ◌<◌}
-use native.Mathlib.Omega.{arith}
-use lib.IntN.{ℤ, pos, nat_abs}
-use lib.ListN.{length, get_or}
+use mathlib.Core.Path.{ap, ◌∙◌}
+use Prim.Native.Nat.{ℕ}
 use Rattle.interpretation.specs.View.{valued}
-use Rattle.layout.specs.Layout.{Laid, Members, AggregateLies, nat_at, start_from, aggregate_at, literal_of}
-use mathlib.Core.List.{List}
-use mathlib.Core.Path.{subst}
-use Rattle.levels.specs.Levels.{Levels, union}
+use Rattle.layout.specs.Layout.{aggregate_at}
+use Rattle.levels.specs.Levels.{union}
 use Rattle.levels.specs.View.{row, rows}
-use Rattle.layout.specs.Layout.{pairs, pairs_at, aggregate_at}
+use Rattle.layout.specs.Layout.{aggregate_at}
 use Rattle.valuing.specs.Settling.{settling_of}
 use Rattle.valuing.specs.Reasons.{reasons_at, reason_of}
-use Rattle.literals.specs.Elements.{Paired}
-use Rattle.literals.proofs.Pairs.{numbered, place, lies_at, paired}
+use Rattle.literals.proofs.Pairs.{place}
 use Rattle.literals.proofs.literal_reason.Goals as goal
 
 pub returns : goal.returns

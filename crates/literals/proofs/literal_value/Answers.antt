@@ -1,17 +1,14 @@
 -- `literals::literal_value` meets its contract. Assumes nothing.
-use borrow.Author.Rules.{rules}
-use mathlib.Core.Path.{◌≡◌, refl, sym, ap, ◌∙◌}
-use mathlib.Core.Bool.{Bool, true, false}
-use Prim.Native.Nat.{ℕ, ◌+◌, ◌-◌, ◌≤◌, ◌<◌}
-use native.Mathlib.Omega.{arith}
-use lib.IntN.{ℤ, pos, nat_abs}
-use lib.ListN.{length, get_or}
+use mathlib.Core.Path.{ap, ◌∙◌}
+use mathlib.Core.Bool.{Bool}
+use Prim.Native.Nat.{ℕ}
+use lib.IntN.{pos}
+use lib.ListN.{get_or}
 use lib.Signed.{non_neg}
 use Rattle.interpretation.specs.View.{valued}
-use Rattle.layout.specs.Layout.{Laid, Members, AggregateLies, nat_at, start_from, aggregate_at, literal_of}
-use Rattle.interpretation.specs.declared.Value.{Value}
+use Rattle.layout.specs.Layout.{aggregate_at}
 use Rattle.valuing.specs.Values.{signed, aggregate_value, literal_value}
-use Rattle.literals.proofs.Pairs.{numbered, place, lies_at}
+use Rattle.literals.proofs.Pairs.{place}
 use Rattle.literals.proofs.literal_value.Goals as goal
 
 pub returns : goal.returns

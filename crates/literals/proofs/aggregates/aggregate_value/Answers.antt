@@ -1,22 +1,19 @@
 -- `literals::aggregates::aggregate_value` meets its contract. Assumes nothing.
-use borrow.Author.Rules.{rules}
-use mathlib.Core.Path.{◌≡◌, refl, sym, ap, ◌∙◌}
-use mathlib.Core.Bool.{Bool, true, false}
-use Prim.Native.Nat.{ℕ, ◌+◌, ◌-◌, ◌≤◌, ◌<◌}
-use native.Mathlib.Omega.{arith}
-use lib.IntN.{ℤ, pos, nat_abs}
-use lib.ListN.{length, get_or}
+use mathlib.Core.Path.{◌≡◌, sym, ap, ◌∙◌}
+use mathlib.Core.Bool.{Bool}
+use Prim.Native.Nat.{ℕ, ◌+◌}
+use lib.IntN.{ℤ, pos}
+use lib.ListN.{get_or}
 use Rattle.interpretation.specs.View.{valued}
 use mathlib.Core.List.{List}
 use mathlib.Core.Path.{subst}
 use Rattle.meaning.specs.declared.Function.{Function}
 use Rattle.meaning.specs.declared.Function.TheVariants.{Min, Max}
 use Rattle.meaning.specs.declared.Comparison.{Comparison}
-use Rattle.interpretation.specs.declared.Value.{Value}
 use Rattle.layout.specs.Layout.{nat_at, function_by, comparison_by, pairs, pairs_at, aggregate_at}
 use Rattle.valuing.specs.Values.{asks_each, aggregate_value}
-use Rattle.literals.specs.Elements.{limit_of, totals_value, marks_of, marks_value, Paired}
-use Rattle.literals.proofs.Pairs.{limit_most, paired}
+use Rattle.literals.specs.Elements.{limit_of, marks_of, marks_value, Paired}
+use Rattle.literals.proofs.Pairs.{paired}
 use Rattle.literals.proofs.Amounts.{found_by, found_right}
 use Rattle.literals.proofs.aggregates.aggregate_value.Goals as goal
 

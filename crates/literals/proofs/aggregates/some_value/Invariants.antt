@@ -1,24 +1,11 @@
 -- `literals::aggregates::some_value` meets its contract. The invariant of its loop: of the pairs walked, no true element passes, and `passable`
 -- says whether one that could be true does. Assumes nothing.
-use borrow.Author.Rules.{rules}
-use mathlib.Core.Path.{◌≡◌, refl, sym, ap, ◌∙◌}
-use mathlib.Core.Bool.{Bool, true, false, ◌||◌}
-use mathlib.Core.List.{List}
-use Rattle.meaning.specs.Program.{Element}
-use Prim.Native.Nat.{ℕ, ◌+◌, ◌-◌, ◌*◌, ◌/◌, ◌≤◌, ◌<◌}
-use native.Mathlib.Omega.{arith}
-use lib.Dec.{ltb, eqb}
-use borrow.Author.Tests.{ne_eqb}
-use lib.IntN.{ℤ, pos, nat_abs}
-use lib.ListN.{length, get_or, drop}
-use Rattle.interpretation.specs.View.{cell_by, valued, cell_value}
-use Rattle.interpretation.specs.declared.Value.{Value}
-use Rattle.layout.specs.Layout.{pairs}
-use Rattle.valuing.specs.Values.{between}
-use Rattle.literals.specs.Elements.{Marks, passes_by, marked_by, marks_of, marks_value}
-use Rattle.literals.proofs.Pairs.{pair_at, pairs_end, pairs_whole}
-use Rattle.literals.proofs.Amounts.{marks_none}
-use Rattle.literals.proofs.Bytes.{marks_from, marks_step, passing, pass_byte, fail_passed, fail_passable, passed_early}
+use mathlib.Core.Path.{◌≡◌}
+use mathlib.Core.Bool.{false}
+use Prim.Native.Nat.{◌/◌, ◌≤◌}
+use lib.ListN.{length}
+use Rattle.interpretation.specs.View.{valued}
+use Rattle.literals.proofs.Bytes.{marks_from}
 use Rattle.literals.proofs.aggregates.some_value.Given as goal
 
 abbrev pub invariant-loop-left : goal.invariant-loop-left

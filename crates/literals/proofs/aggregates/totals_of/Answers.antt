@@ -1,18 +1,12 @@
 -- `literals::aggregates::totals_of` meets its contract. Assumes nothing.
-use borrow.Author.Rules.{rules}
-use mathlib.Core.Path.{◌≡◌, refl, sym, ap, ◌∙◌}
-use mathlib.Core.Bool.{Bool, true, false}
-use Prim.Native.Nat.{ℕ, ◌+◌, ◌-◌, ◌*◌, ◌/◌, ◌≤◌, ◌<◌}
+use mathlib.Core.Path.{sym, ap, ◌∙◌}
+use Prim.Native.Nat.{◌-◌, ◌/◌, ◌≤◌}
 use native.Mathlib.Omega.{arith}
-use lib.IntN.{ℤ, pos, nat_abs}
-use lib.ListN.{length, get_or, drop}
+use lib.ListN.{length}
 use Rattle.interpretation.specs.View.{cell_by, valued, cell_value}
-use Rattle.layout.specs.Layout.{pairs}
-use mathlib.Core.List.{List}
-use Rattle.meaning.specs.Program.{Element}
 use Rattle.literals.specs.declared.aggregates.Totals.{Totals}
-use Rattle.literals.specs.Elements.{weight_of, added_by, totals_of}
-use Rattle.literals.proofs.Pairs.{pairs_end, pairs_whole}
+use Rattle.literals.specs.Elements.{weight_of, totals_of}
+use Rattle.literals.proofs.Pairs.{pairs_end}
 use Rattle.literals.proofs.Amounts.{totals_none, totals_down, weight_most, low_most, high_most}
 use Rattle.literals.proofs.aggregates.totals_of.Goals as goal
 

@@ -1,15 +1,13 @@
 -- `literals::settling::aggregate_reason` meets its contract. Assumes nothing.
-use borrow.Author.Rules.{rules}
-use mathlib.Core.Path.{◌≡◌, refl, sym, ap, ◌∙◌, subst}
-use mathlib.Core.Bool.{Bool, true, false, not}
+use mathlib.Core.Path.{◌≡◌, sym, ap, ◌∙◌, subst}
+use mathlib.Core.Bool.{Bool, not}
 use mathlib.Core.List.{List}
-use Prim.Native.Nat.{ℕ, ◌+◌, ◌-◌, ◌≤◌, ◌<◌}
-use native.Mathlib.Omega.{arith}
-use lib.IntN.{ℤ, pos, nat_abs}
-use lib.ListN.{length, get_or}
+use Prim.Native.Nat.{ℕ, ◌+◌}
+use lib.IntN.{ℤ, pos}
+use lib.ListN.{get_or}
 use Rattle.meaning.specs.declared.Function.{Function}
 use Rattle.meaning.specs.declared.Comparison.{Comparison}
-use Rattle.levels.specs.Levels.{Levels, union}
+use Rattle.levels.specs.Levels.{union}
 use Rattle.levels.specs.View.{row, rows}
 use Rattle.interpretation.specs.View.{valued}
 use Rattle.layout.specs.Layout.{nat_at, function_by, comparison_by, pairs, pairs_at, aggregate_at}
@@ -17,7 +15,7 @@ use Rattle.valuing.specs.Settling.{settling_of}
 use Rattle.valuing.specs.Reasons.{reasons_at}
 use Rattle.literals.specs.Elements.{limit_of, Paired}
 use Rattle.literals.specs.Settled.{single_of, blamed_by}
-use Rattle.literals.proofs.Pairs.{limit_most, paired}
+use Rattle.literals.proofs.Pairs.{paired}
 use Rattle.literals.proofs.Blamed.{rising_differ, max_each, blamed_right}
 use Rattle.literals.proofs.settling.aggregate_reason.Goals as goal
 

@@ -1,7 +1,6 @@
 -- `literals::settling::joined` meets its contract. Assumes nothing.
-use borrow.Author.Rules.{rules}
-use mathlib.Core.Path.{◌≡◌, refl, sym, ap, ◌∙◌}
-use mathlib.Core.Bool.{Bool, true, false}
+use mathlib.Core.Path.{sym, ap, ◌∙◌}
+use mathlib.Core.Bool.{Bool}
 use Rattle.levels.specs.Levels.{Levels, union}
 use Rattle.levels.specs.View.{row, rows}
 use Rattle.levels.proofs.Laws.{rows_at}

@@ -1,15 +1,12 @@
 -- `literals::settling::passing` meets its contract. Assumes nothing.
-use borrow.Author.Rules.{rules}
-use mathlib.Core.Path.{◌≡◌, refl, sym, ap, ap₂, ◌∙◌}
-use mathlib.Core.Bool.{Bool, true, false}
-use Prim.Native.Nat.{ℕ, ◌+◌, ◌-◌, ◌*◌, ◌/◌, ◌≤◌, ◌<◌}
+use mathlib.Core.Path.{sym, ap, ap₂, ◌∙◌}
+use mathlib.Core.Bool.{Bool}
+use Prim.Native.Nat.{ℕ, ◌+◌, ◌/◌, ◌≤◌}
 use native.Mathlib.Omega.{arith}
-use lib.IntN.{ℤ, pos, nat_abs}
-use lib.ListN.{length, get_or, drop}
-use Rattle.layout.specs.Layout.{pairs}
+use lib.ListN.{length}
 use Rattle.literals.specs.Elements.{passes_by, part_of}
 use Rattle.literals.specs.Settled.{passing_of}
-use Rattle.literals.proofs.Pairs.{pairs_down, pairs_end, pairs_whole}
+use Rattle.literals.proofs.Pairs.{pairs_down, pairs_end}
 use Rattle.literals.proofs.Bytes.{part_most}
 use Rattle.literals.proofs.settling.passing.Goals as goal
 

@@ -1,22 +1,15 @@
 -- `literals::settling::shortest` meets its contract. Assumes nothing.
-use borrow.Author.Rules.{rules}
-use mathlib.Core.Path.{◌≡◌, refl, sym, ap, ap₂, ◌∙◌}
-use mathlib.Core.Bool.{Bool, true, false}
+use mathlib.Core.Path.{◌≡◌}
+use mathlib.Core.Bool.{Bool}
 use mathlib.Core.List.{List}
-use Prim.Native.Nat.{ℕ, ◌+◌, ◌-◌, ◌*◌, ◌/◌, ◌≤◌, ◌<◌}
-use native.Mathlib.Omega.{arith}
-use lib.IntN.{ℤ, pos, nat_abs}
-use lib.ListN.{length, get_or, drop}
-use Rattle.meaning.specs.Program.{Element}
+use Prim.Native.Nat.{ℕ, ◌+◌, ◌-◌, ◌*◌, ◌≤◌}
+use lib.IntN.{ℤ}
+use lib.ListN.{drop}
 use Rattle.levels.specs.Levels.{Levels}
 use Rattle.levels.specs.View.{row, rows}
-use Rattle.interpretation.specs.View.{cell_by, valued}
+use Rattle.interpretation.specs.View.{valued}
 use Rattle.layout.specs.Layout.{pairs}
-use Rattle.literals.specs.Elements.{weight_of, part_of}
-use Rattle.literals.specs.Settled.{join_if, of_sign, whole_of, Told, run_of}
-use Rattle.literals.proofs.Pairs.{pair_on, pairs_on, pairs_end}
-use Rattle.literals.proofs.Bytes.{part_most}
-use Rattle.literals.proofs.Runs.{run_on, run_here}
+use Rattle.literals.specs.Settled.{whole_of, Told, run_of}
 use Rattle.meaning.specs.declared.Comparison.{Comparison}
 use Rattle.literals.proofs.settling.shortest.Given as goal
 

@@ -1,16 +1,9 @@
 -- `literals::settling::whole` meets its contract. Assumes nothing.
-use borrow.Author.Rules.{rules}
-use mathlib.Core.Path.{◌≡◌, refl, sym, ap, ap₂, ◌∙◌}
-use mathlib.Core.Bool.{Bool, true, false}
-use Prim.Native.Nat.{ℕ, ◌+◌, ◌-◌, ◌*◌, ◌/◌, ◌≤◌, ◌<◌}
-use native.Mathlib.Omega.{arith}
-use lib.IntN.{ℤ, pos, nat_abs}
-use lib.ListN.{length, get_or, drop}
+use mathlib.Core.Path.{◌≡◌}
+use Prim.Native.Nat.{◌-◌, ◌*◌, ◌/◌, ◌≤◌}
+use lib.ListN.{length, drop}
 use Rattle.layout.specs.Layout.{pairs}
-use Rattle.literals.specs.Elements.{weight_of}
 use Rattle.literals.specs.Settled.{whole_of}
-use Rattle.literals.proofs.Pairs.{pairs_down, pairs_end, pairs_whole}
-use Rattle.literals.proofs.Amounts.{weight_most}
 use Rattle.literals.proofs.settling.whole.Given as goal
 
 abbrev pub invariant-loop-left : goal.invariant-loop-left
