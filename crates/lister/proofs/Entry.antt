@@ -29,7 +29,6 @@ use Rattle.judging.proofs.Refusals.{heads_free, accepted_unique, refused_not_acc
 use Rattle.promises.specs.Listings.{rows_with, rooms, AllPlans, listed_by, listed_as, ListSearching}
 use Rattle.promises.proofs.Listed.{lists_means, lists_searches}
 use Rattle.listing.specs.Rows as code
-use Rattle.listing.specs.declared.Told.{Told}
 use Rattle.lister.specs.Listing.{Listing}
 use Rattle.lister.specs.Telling.{result_by, result_of}
 use Rattle.lister.proofs.Rows.{with_same}

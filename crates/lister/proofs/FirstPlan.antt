@@ -12,7 +12,7 @@ use native.Mathlib.Omega.{arith}
 use Rattle.meaning.specs.Aggregates.{Atoms}
 use Rattle.meaning.proofs.Cond.{if_lt_yes, some_inj}
 use Rattle.search.specs.Search.{Problem, Mode, Result, answer, no_answer, limit, State, Outcome, Next, go, end, turn, cont, run, start, solve}
-use Rattle.search.specs.Listing.{Jumped, Listing, Listed, ListNext, go_on, stop, stopped, jumped_over, onward, resumed, found, followed, list_turn, cont_list, list_run, alone, list_all}
+use Rattle.search.specs.Listing.{Jumped, Listing, Listed, ListNext, stop, stopped, jumped_over, onward, resumed, found, followed, list_turn, cont_list, list_run, alone, list_all}
 use Rattle.search.proofs.ListRuns.{after, by_turn}
 
 no_fuel : {A : Type 0} {a : A} → ◌≡◌ {A = Option A} none (some a) → ⊥

@@ -1,7 +1,7 @@
 -- "the first row of a listing is what `solve` answers": of the same accepted table with the same limit, where there is room for a row. Assumes nothing.
 --   first_row    where `solve` answers, a plan is listed, and the first row and the plan's bytes say the same atoms
 --   row_answered where a plan is listed, `solve` answers
-use Prim.Native.Nat.{ℕ, zero, suc, ◌+◌, ◌-◌, ◌*◌, ◌≤◌, ◌<◌}
+use Prim.Native.Nat.{ℕ, zero, suc, ◌-◌, ◌*◌, ◌≤◌}
 use mathlib.Core.Path.{◌≡◌, refl, sym, ◌∙◌, ap}
 use mathlib.Core.Option.{some}
 use mathlib.Core.List.{List, [], ◌∷◌, ◌++◌, append_assoc}
@@ -17,7 +17,7 @@ use Rattle.results.specs.declared.Listed.{Listed}
 use Rattle.results.specs.declared.Solved.{Solved}
 use Rattle.results.specs.declared.Solved.TheVariants as solved
 use Rattle.results.specs.Results.{listed_of, kind_of}
-use Rattle.search.specs.Search.{Problem, Result, answer, no_answer, limit, jump, Outcome}
+use Rattle.search.specs.Search.{Result, answer, no_answer, limit, jump, Outcome}
 use Rattle.smaller.specs.Cyclic.{base_by}
 use Rattle.search.specs.Listing as listing
 use Rattle.table.specs.Contents.{Contents, program}

@@ -1,16 +1,14 @@
 -- A plan is listed, and the listing ends or goes on, as the code goes: back to the present level, all present levels being the reason. Assumes nothing.
 use Prim.Native.Nat.{ℕ, zero, suc, ◌+◌, ◌-◌, ◌*◌, ◌≤◌, ◌<◌}
 use native.Mathlib.Omega.{arith}
-use native.Mathlib.Numerals.{add-one}
-use mathlib.Core.Path.{◌≡◌, refl, sym, ◌∙◌, ap, subst}
-use mathlib.Core.Bool.{Bool, true, false}
-use mathlib.Core.Option.{some}
+use mathlib.Core.Path.{◌≡◌, sym, ◌∙◌, ap}
+use mathlib.Core.Bool.{Bool}
 use mathlib.Core.List.{List, [], ◌∷◌, ◌++◌}
 use lib.ListN.{length, length-append}
 use Rattle.meaning.specs.Cond.{if_eq}
 use Rattle.meaning.specs.Aggregates.{Atoms}
 use Rattle.meaning.specs.Program.{Program}
-use Rattle.levels.specs.Levels.{Levels, up_to, without, highest}
+use Rattle.levels.specs.Levels.{up_to, without, highest}
 use Rattle.levels.specs.View.{rows}
 use Rattle.interpretation.specs.State.{Interpretation, jumped, true_atoms}
 use Rattle.interpretation.specs.View.{view}
@@ -18,21 +16,20 @@ use Rattle.outcome.specs.declared.Start.{Start}
 use Rattle.outcome.specs.declared.Halt.{Halt}
 use Rattle.outcome.specs.declared.Ending.{Ending}
 use Rattle.outcome.specs.declared.Ending.TheVariants as ending
-use Rattle.search.specs.Search.{Problem, Branch, answer, no_answer, State, Outcome, go, end, jump, jumped_reason, propagated, turn, start}
+use Rattle.search.specs.Search.{Problem, answer, State, Outcome, jump, jumped_reason, propagated}
 use Rattle.smaller.specs.Cyclic.{base_by}
-use Rattle.search.specs.Listing.{Jumped, Listed, go_on, stop, jumped_over, stopped, resumed, onward, list_turn, alone, list_all}
+use Rattle.search.specs.Listing.{Jumped, go_on, jumped_over, stopped, resumed, onward, list_turn}
 use Rattle.search.proofs.Fuel.{meas}
-use Rattle.search.proofs.ListRuns.{ListEnds, list_ends_on, list_less}
+use Rattle.search.proofs.ListRuns.{list_ends_on, list_less}
 use Rattle.search.proofs.Parts.{highest_up_to}
 use Rattle.jumping.specs.Jumping.{state_of, result_of, end_of, Searched}
-use Rattle.turns.specs.declared.Back.{Back}
 use Rattle.turns.specs.declared.Back.TheVariants.{End, Level}
 use Rattle.turns.specs.Turns.{back_to, back_of}
 use Rattle.listing.specs.declared.Kind.TheVariants.{Complete}
 use Rattle.listing.specs.declared.Told.{Told}
 use Rattle.listing.specs.Rows.{row_put, rows_with, kind_by, ListsBy}
 use Rattle.listing.proofs.Written.{listed_more}
-use Rattle.listing.proofs.Listing.{listing, led_lists, led_falls, lists_plan, resumed_end, Resumes, resumed_go, Done, ended, plan, lists_by}
+use Rattle.listing.proofs.Listing.{listing, led_lists, led_falls, lists_plan, resumed_end, Resumes, resumed_go, Done, lists_by}
 
 -- ---- where the code goes back to
 

@@ -1,20 +1,19 @@
 -- From the search's turns to those of the listing: turns that lead the search on lead the listing on, and what a search that ended comes to in the listing.
 -- Assumes nothing.
-use Prim.Native.Nat.{ℕ, zero, suc, ◌+◌, ◌-◌, ◌*◌, ◌≤◌, ◌<◌}
+use Prim.Native.Nat.{ℕ, suc, ◌+◌, ◌-◌, ◌≤◌, ◌<◌}
 use native.Mathlib.Omega.{arith}
 use mathlib.Core.Path.{◌≡◌, refl, sym, ◌∙◌, ap, subst}
-use mathlib.Core.Bool.{Bool, true, false, not}
+use mathlib.Core.Bool.{not}
 use mathlib.Core.Option.{some}
 use mathlib.Core.List.{List, [], ◌∷◌, ◌++◌}
 use lib.ListN.{length}
-use Rattle.meaning.specs.Cond.{if_lt}
 use Rattle.meaning.specs.Aggregates.{Atoms}
 use Rattle.meaning.proofs.Cond.{if_lt_yes, if_lt_no}
-use Rattle.levels.specs.Levels.{Levels, up_to}
-use Rattle.search.specs.Search.{Problem, Branch, Result, answer, no_answer, limit, State, Outcome, Next, go, end, jump, target, go_back_by, jumped_as, jumped_reason, branches, propagated, turn, start}
-use Rattle.search.specs.Listing.{Jumped, Listing, Listed, ListNext, go_on, stop, jumped_over, stopped, at_plan, resumed, onward, found, followed, list_turn, alone, list_all}
+use Rattle.levels.specs.Levels.{up_to}
+use Rattle.search.specs.Search.{Problem, Branch, Result, answer, no_answer, limit, State, Outcome, go, end, jump, go_back_by, jumped_as, jumped_reason, propagated, turn, start}
+use Rattle.search.specs.Listing.{Jumped, Listing, Listed, stop, jumped_over, stopped, at_plan, resumed, onward, found, followed, list_turn, alone, list_all}
 use Rattle.search.proofs.Fuel.{meas, turn_less}
-use Rattle.search.proofs.ListRuns.{ListEnds, list_ends_stop, list_ends_on, list_ends_all, list_less}
+use Rattle.search.proofs.ListRuns.{ListEnds, list_ends_stop, list_ends_on, list_ends_all}
 use Rattle.search.proofs.Parts.{highest_up_to}
 use Rattle.interpretation.specs.State.{true_atoms}
 use Rattle.interpretation.specs.View.{view}

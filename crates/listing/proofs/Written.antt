@@ -6,7 +6,7 @@ use Prim.Native.Nat.{ℕ, zero, suc, ◌+◌, ◌*◌, ◌/◌, ◌<◌, ◌≤�
 use native.Mathlib.Numerals.{add-one}
 use native.Mathlib.Omega.{arith}
 use lib.ListN.{length, get_or, set, take, drop, length-append, length-drop, take-append-drop}
-use lib.Seq.{drop-cons, append_snoc, set_at, length-take-le, take_at, drop_at, drop-append-add, drop-drop}
+use lib.Seq.{drop-cons, append_snoc, set_at, length-take-le, take_at, drop-append-add, drop-drop}
 use mathlib.Core.Logic.{◌≢◌}
 use Rattle.meaning.specs.Aggregates.{Atoms}
 use Rattle.meaning.proofs.Cond.{if_lt_yes, if_lt_no}
@@ -15,7 +15,7 @@ use Rattle.interpretation.specs.View.{cell_by, blank, cells, valued}
 use Rattle.interpretation.specs.declared.Record.{Record}
 use Rattle.meaning.specs.Cond.{if_lt}
 use Rattle.interpretation.proofs.Laws.{cells_suc}
-use Rattle.listing.specs.Rows.{bit_by, row_byte, row_from, row_of, row_put, rows_of, rows_with}
+use Rattle.listing.specs.Rows.{row_byte, row_from, row_of, row_put, rows_of, rows_with}
 
 pub row_length : (X : Atoms) (i k : ℕ) → length (row_from X i k) ≡ k
 unfolding row_from

@@ -5,7 +5,7 @@
 --   rows_of, rows_with   the rows of the plans, one after the other; the buffer with them, "rows past the number listed keep their bytes"
 --   ListsBy            the number listed, the kind, the counts and the rows are those of the defined listing
 -- Assumes nothing.
-use Rattle.std.specs.Prelude.{◌≡◌, Bool, true, false, List, [], ◌∷◌, ◌++◌, ℕ, zero, suc, ◌+◌, ◌*◌, ◌/◌, length, take, drop}
+use Rattle.std.specs.Prelude.{◌≡◌, Bool, true, false, List, [], ◌∷◌, ◌++◌, ℕ, zero, suc, ◌+◌, ◌*◌, length, take, drop}
 use Rattle.std.proofs.Math.Option.{some}
 use Rattle.meaning.specs.Aggregates.{Atoms}
 use Rattle.search.specs.Search.{Problem, Result, answer, no_answer, limit, jump}

@@ -1,15 +1,14 @@
 -- The promises of `open`, `pin` and `unpin`, by what was decided. Assumes nothing.
 use mathlib.Core.Path.{◌≡◌, refl, sym, ap, ◌∙◌, subst}
-use mathlib.Core.Logic.{◌≢◌}
-use mathlib.Core.Bool.{Bool, true, false, not}
+use mathlib.Core.Bool.{Bool, false, not}
 use mathlib.Core.Option.{Option, none, some}
-use mathlib.Core.List.{List, [], ◌∷◌, ◌++◌}
-use Prim.Native.Nat.{ℕ, zero, suc, ◌+◌, ◌-◌, ◌≤◌, ◌<◌}
+use mathlib.Core.List.{List, [], ◌++◌}
+use Prim.Native.Nat.{ℕ, zero, suc, ◌+◌, ◌-◌, ◌<◌}
 use native.Mathlib.Omega.{arith}
 use lib.Dec.{ltb}
 use lib.IntN.{ℤ, pos, nat_abs}
 use lib.ListN.{length, get_or, take, drop, set, length-set, length-append, length-drop}
-use lib.Seq.{get_or-set_other, take-set-le, take-append_seam}
+use lib.Seq.{take-set-le, take-append_seam}
 use Rattle.meaning.specs.Cycles.{inside}
 use Rattle.results.specs.declared.Refusal.{Refusal}
 use Rattle.results.specs.declared.Pinned.{Pinned}
@@ -21,11 +20,11 @@ use Rattle.judging.specs.declared.Buffer.TheVariants as lent
 use Rattle.judging.specs.Refusals.{AcceptedBy, RefusedBy}
 use Rattle.judging.proofs.Refusals.{accepted_unique, refused_not_accepted, refused_unique}
 use Rattle.judging.proofs.Places.{ranges}
-use Rattle.sessions.specs.Sessions.{Pin, Pins, Call, pin, unpin, first, is_held, no_pins, refusal, without_last, changed, unless, next}
+use Rattle.sessions.specs.Sessions.{Pins, Call, pin, unpin, first, is_held, no_pins, refusal, without_last}
 use Rattle.sessions.proofs.Held.{taken_e, refused_stays, taken_changes}
 use Rattle.pins.specs.Memory.{count_in, table_in, atoms_in, pins_to, held_in, pins_in, mode_word, cycles_in, opened_with, pin_word, with_pin, without_pin}
 use Rattle.pins.specs.Session.{Opened, Opening, told_for, changed_by, kept_or, Changing}
-use Rattle.pins.proofs.Words.{number_small, number_by, number_is, number_other, number_same, table_other, mode_other, mode_same, pins_length, pins_other, pins_more}
+use Rattle.pins.proofs.Words.{number_small, number_is, number_other, number_same, table_other, mode_other, mode_same, pins_length, pins_other, pins_more}
 
 -- ---- which refusal
 

@@ -11,13 +11,11 @@ use mathlib.Core.List.{List, [], ◌∷◌}
 use Prim.Native.Nat.{ℕ, ◌≤◌, ◌<◌}
 use lib.IntN.{ℤ}
 use lib.ListN.{length}
-use Rattle.meaning.specs.Cond.{if_lt}
 use Rattle.meaning.proofs.Cond.{some_inj, if_lt_yes}
 use Rattle.levels.specs.Levels.{Levels, no_levels}
 use Rattle.steps.specs.Steps.{conflict, propagate}
 use Rattle.results.specs.declared.Counts.{Counts}
 use Rattle.results.specs.declared.Pinned.{Pinned}
-use Rattle.results.specs.declared.Solved.{Solved}
 use Rattle.results.specs.declared.Solved.TheVariants as solved
 use Rattle.results.specs.Results.{report_of, refusal_report}
 use Rattle.search.specs.Search.{Outcome, start}
@@ -31,7 +29,7 @@ use Rattle.judging.proofs.Judged.{plan_good}
 use Rattle.judging.proofs.Refusals.{heads_free}
 use Rattle.promises.specs.Promises.{reported, Meaning, Searching}
 use Rattle.solver.specs.declared.Solution.{Solution}
-use Rattle.sessions.specs.Sessions.{Pins, Call, pin, unpin, plan, next, held_from, held, settings, pins_of, Agrees}
+use Rattle.sessions.specs.Sessions.{Pins, Call, pin, unpin, plan, held_from, held, settings, pins_of, Agrees}
 use Rattle.sessions.proofs.Held.{held_good, plan_stays, settings_give}
 use Rattle.sessions.proofs.Plans.{pins_in_lem, pins_conflict, pins_reason}
 use Rattle.pins.specs.Memory.{table_in, atoms_in, pins_in, taken_of, cycles_in}

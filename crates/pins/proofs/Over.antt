@@ -1,11 +1,10 @@
 -- Promises over one set of answer sets, said of another that has the same members. Assumes nothing.
-use mathlib.Core.Path.{◌≡◌}
 use mathlib.Core.List.{List}
 use Prim.Native.Nat.{ℕ}
 use Rattle.meaning.specs.Aggregates.{Atoms}
 use Rattle.results.specs.declared.Solved.{Solved}
 use Rattle.search.specs.Search.{Problem, Outcome}
-use Rattle.promises.specs.Promises.{FirstWritten, Meaning, Beside, Searching}
+use Rattle.promises.specs.Promises.{Meaning, Searching}
 
 module _ (AS BS : Atoms → Type 0) (to : (X : Atoms) → AS X → BS X) (from : (X : Atoms) → BS X → AS X) (lim : ℕ) (old new : List ℕ) (r : Solved) where
   pub meaning_over : (n : ℕ) → Meaning n AS lim old new r → Meaning n BS lim old new r

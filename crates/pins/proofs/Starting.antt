@@ -1,9 +1,8 @@
 -- The pins set one after the other make the start of the search with the pins held. Assumes nothing.
 use mathlib.Core.Path.{◌≡◌, refl, sym, ap, ◌∙◌, subst}
-use mathlib.Core.Logic.{◌⊎◌, inl, inr, ◌≢◌}
 use mathlib.Core.Bool.{Bool, true, false, not, cond, ◌&&◌, ◌||◌}
 use mathlib.Core.Option.{Option, none, some}
-use mathlib.Core.List.{List, [], ◌∷◌, ◌++◌}
+use mathlib.Core.List.{List, [], ◌∷◌}
 use Prim.Native.Nat.{ℕ, zero, suc, ◌+◌, ◌-◌, ◌≤◌, ◌<◌}
 use native.Mathlib.Omega.{arith}
 use native.Mathlib.Numerals.{add-one}
@@ -27,7 +26,7 @@ use Rattle.search.specs.Search.{jump, Tested, passed, failed, exhausted, State, 
 use Rattle.smaller.specs.Cyclic.{test_by, problem_by, base_by}
 use Rattle.outcome.specs.declared.Halt.{Halt}
 use Rattle.jumping.specs.Jumping.{Ordered, Led, here, on, Searched}
-use Rattle.sessions.specs.Sessions.{Pin, Pins, Call, pin, first, is_held, refusal, changed, unless, next, held_from, held, settings, pins_of, cells_of}
+use Rattle.sessions.specs.Sessions.{Pin, Pins, pin, first, is_held, refusal, changed, unless, next, held_from, held, settings, pins_of, cells_of}
 use Rattle.sessions.proofs.Held.{Good, held_snoc}
 use Rattle.sessions.proofs.Plans.{pins_e, start_cells_lem}
 use Rattle.pins.specs.Memory.{atom_as, value_as, word_at, pins_to}

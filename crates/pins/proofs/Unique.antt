@@ -1,6 +1,6 @@
 -- Each promise has one answer only: two results, and two later memories or buffers, that meet it for the same input are equal. Assumes nothing.
 --   opening_unique    of `open`;  changing_unique: of `pin` and `unpin`;  plans_unique: of `plan`
-use mathlib.Core.Path.{◌≡◌, refl, sym, ◌∙◌, ap, subst}
+use mathlib.Core.Path.{◌≡◌, sym, ◌∙◌, ap, subst}
 use mathlib.Core.Logic.{◌≢◌, ◌⊎◌, inl, inr}
 use mathlib.Core.Bool.{Bool, true, false}
 use mathlib.Core.List.{List}

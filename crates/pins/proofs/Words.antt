@@ -2,24 +2,24 @@
 --   number-*    a number kept at an index
 --   copied-*    the table's words copied to the front
 --   pins-*      the pins
-use mathlib.Core.Path.{◌≡◌, refl, sym, ap, ◌∙◌, subst}
+use mathlib.Core.Path.{◌≡◌, refl, sym, ap, ◌∙◌}
 use mathlib.Core.Logic.{◌≢◌, ◌⊎◌, inl, inr}
 use mathlib.Core.Bool.{Bool, true, false, not, ◌||◌}
-use mathlib.Core.List.{List, [], ◌∷◌, ◌++◌}
+use mathlib.Core.List.{List, ◌∷◌, ◌++◌}
 use Prim.Native.Nat.{ℕ, zero, suc, ◌+◌, ◌-◌, ◌≤◌, ◌<◌}
 use native.Mathlib.Omega.{arith}
 use native.Mathlib.Numerals.{add-one}
 use borrow.Author.Tests.{lt-ltb, le-ltb, le-leb, lt-leb, eq-eqb, ne_eqb}
 use lib.Dec.{ltb, leb, eqb}
 use lib.IntN.{ℤ, pos, nat_abs}
-use lib.ListN.{length, get_or, take, drop, set, length-set}
-use lib.Seq.{take-suc, drop-cons, append_snoc, set-append_seam, length-take-le, get_or-set_same, get_or-set_other, take-set-le, take-append_seam}
+use lib.ListN.{length, get_or, take, drop, set}
+use lib.Seq.{take-suc, drop-cons, append_snoc, set-append_seam, length-take-le, get_or-set_same, get_or-set_other, take-set-le}
 use mir.Syntax.{w32}
 use mir.Val.{SFits}
 use Rattle.meaning.specs.Cond.{if_lt}
 use Rattle.meaning.proofs.Cond.{if_lt_yes, if_lt_no, lt_case}
 use Rattle.sessions.specs.Sessions.{Pin, Pins, is_held}
-use Rattle.pins.specs.Memory.{number_at, count_in, table_in, atoms_in, atom_as, value_as, pin_word, word_at, pins_to, held_in, pins_in, mode_word, cycles_in}
+use Rattle.pins.specs.Memory.{number_at, count_in, table_in, atom_as, value_as, pin_word, word_at, pins_to, mode_word, cycles_in}
 
 -- a small number as a signed word
 pub fits : (n : ℕ) → n ≤ 16384 → SFits w32 (pos n)

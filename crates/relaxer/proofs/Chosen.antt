@@ -6,7 +6,7 @@ use mathlib.Core.List.{List}
 use Prim.Native.Nat.{ℕ, ◌+◌, ◌-◌, ◌*◌, ◌≤◌, ◌<◌}
 use native.Mathlib.Omega.{arith}
 use lib.IntN.{ℤ}
-use lib.ListN.{length, get_or, set, take, drop, length-set, length-drop}
+use lib.ListN.{length, get_or, set, take, drop, length-set}
 use lib.Seq.{get_or-take, get_or-set_same, get_or-set_other, drop-set-lt, drop-drop, take-set-le}
 use Rattle.layout.specs.Layout.{Laid}
 use Rattle.layout.specs.declared.Table.{Table}

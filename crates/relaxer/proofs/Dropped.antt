@@ -2,7 +2,7 @@
 use mathlib.Core.Path.{◌≡◌, refl, sym, ap, ◌∙◌}
 use mathlib.Core.Bool.{Bool, true, false, cond, not, ◌||◌}
 use mathlib.Core.List.{List, [], ◌∷◌, ◌++◌, append-nil}
-use Prim.Native.Nat.{ℕ, zero, suc, ◌+◌, ◌-◌, ◌≤◌, ◌<◌}
+use Prim.Native.Nat.{ℕ, suc, ◌+◌, ◌-◌, ◌≤◌, ◌<◌}
 use native.Mathlib.Numerals.{add-one}
 use native.Mathlib.Omega.{arith}
 use lib.IntN.{ℤ}
@@ -13,7 +13,6 @@ use Rattle.meaning.specs.Program.{Rule, Program}
 use Rattle.layout.specs.Layout.{past_rule, rule_at, rules_from}
 use Rattle.layout.proofs.Rounds.{rules_on, rules_none}
 use Rattle.promises.specs.Plans.{bit_of}
-use Rattle.relaxing.specs.Relaxing as defined
 use Rattle.relaxing.specs.Relaxing.{headed, dropped_from}
 
 -- ---- one rule at a time

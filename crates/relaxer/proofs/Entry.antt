@@ -9,7 +9,7 @@ use mathlib.Core.Bool.{Bool, false}
 use mathlib.Core.Option.{some}
 use mathlib.Core.List.Memᴰ
 use mathlib.Core.List.{List, [], ◌∷◌, ◌++◌}
-use Prim.Native.Nat.{ℕ, ◌≤◌, ◌<◌}
+use Prim.Native.Nat.{ℕ, ◌≤◌}
 use native.Mathlib.Omega.{arith}
 use lib.IntN.{ℤ}
 use lib.ListN.{length, drop}
@@ -36,7 +36,7 @@ use Rattle.relaxing.proofs.Relaxing.{relax_gives, none_means_none, limit_is_a_tr
 use Rattle.table.specs.Contents.{Contents, program}
 use Rattle.table.proofs.Accepted.{accepted_atoms}
 use Rattle.judging.specs.declared.Buffer.TheVariants.{Plan}
-use Rattle.judging.specs.Refusals.{AcceptedBy, RefusedBy}
+use Rattle.judging.specs.Refusals.{AcceptedBy}
 use Rattle.judging.proofs.Refusals.{heads_free, accepted_unique, refused_not_accepted, refused_unique}
 use Rattle.relaxer.specs.Promise.{RelaxRefused, before, short, relaxed_by, list_after, plan_after, GivesUp, Relaxes, Relaxing}
 

@@ -14,7 +14,7 @@ use Rattle.meaning.specs.Lists.{cons_if, has}
 use Rattle.meaning.specs.Program.{Program}
 use Rattle.layout.specs.Layout.{past_rule, rule_at, rules_from, program_of, RulesLie, Laid}
 use Rattle.layout.specs.declared.Table.{Table}
-use Rattle.heads.specs.Heads.{bounds, places_from, places_of, with_head, AllLie, Part}
+use Rattle.heads.specs.Heads.{bounds, places_from, with_head, AllLie, Part}
 use Rattle.heads.proofs.Laws.{lie_nil, lie_cons}
 use Rattle.heads.proofs.Lists.{part, moved}
 use Rattle.promises.specs.Plans.{bit_of}

@@ -1,15 +1,13 @@
 -- The promise of `relax` has one answer only: two results, two later lists and two later plan buffers that meet it for the same input are equal. Assumes nothing.
 --   relaxing_unique   of the promise
 --   lent_unique       two calls of `relax_with` that differ only in what the lent memory holds
-use mathlib.Core.Path.{◌≡◌, refl, sym, ap, ◌∙◌}
+use mathlib.Core.Path.{◌≡◌, refl, sym, ◌∙◌}
 use mathlib.Core.Logic.{◌⊎◌, inl, inr}
-use mathlib.Core.Bool.{Bool}
 use mathlib.Core.List.{List}
 use Prim.Native.Nat.{ℕ, ◌≤◌, ◌<◌}
 use lib.IntN.{ℤ}
 use lib.ListN.{length}
 use Rattle.meaning.proofs.Cond.{lt_case}
-use Rattle.results.specs.declared.Refusal.{Refusal}
 use Rattle.results.specs.declared.Ask.{Ask}
 use Rattle.results.specs.declared.Relaxed.{Relaxed}
 use Rattle.results.specs.Results.{number_of, place_of}
@@ -18,7 +16,7 @@ use Rattle.table.specs.Contents.{Contents, program}
 use Rattle.judging.specs.declared.Buffer.TheVariants.{Plan}
 use Rattle.judging.specs.Refusals.{AcceptedBy}
 use Rattle.judging.proofs.Judged.{DecidedBy, decided}
-use Rattle.relaxer.specs.Promise.{RelaxRefused, before, short, Relaxes, Relaxing}
+use Rattle.relaxer.specs.Promise.{RelaxRefused, before, short, Relaxing}
 
 module _ (t : List ℤ) (ask : Ask) (list plan : List ℕ) where
   abbrev Same : List ℕ → List ℕ → Relaxed → List ℕ → List ℕ → Relaxed → Type 0

@@ -1,0 +1,20 @@
+-- `relaxer::rules::choose` meets its contract. The invariant of its loop: the n places that stand behind the bounds, and those to come, are the places of all rules that
+-- take part; the words before, and those behind the room for all rules, stay. The measure is the number of rules to come. Assumes nothing.
+use mathlib.Core.Path.{◌≡◌}
+use mathlib.Core.List.{◌++◌}
+use Prim.Native.Nat.{suc, ◌+◌, ◌-◌, ◌≤◌}
+use lib.ListN.{length, take, drop}
+use Rattle.levels.specs.View.{row}
+use Rattle.layout.specs.Layout.{RulesLie}
+use Rattle.heads.specs.Heads.{bounds, size}
+use Rattle.heads.proofs.Lists.{part}
+use Rattle.relaxer.specs.Offering.{kept_from, kept_places}
+use Rattle.relaxer.proofs.rules.choose.Given as goal
+
+abbrev pub invariant-loop-i : goal.invariant-loop-i
+invariant-loop-i l =
+    (l.i ≤ l.tb.rules) × (l.n ≤ l.i) × (length l.lists ≡ size) × (take bounds l.lists ≡ take bounds l.initial.lists) × (drop (bounds + l.tb.rules) l.lists ≡ drop (bounds + l.tb.rules) l.initial.lists)
+    × RulesLie l.tb.atoms l.tb.aggregates l.t l.at (l.tb.rules - l.i) × (part l.lists bounds l.n ++ kept_from (row l.kept) l.t l.at (suc l.i) (l.tb.rules - l.i) ≡ kept_places (row l.kept) l.t l.tb)
+
+abbrev pub decreases-loop-i : goal.decreases-loop-i
+decreases-loop-i l = l.tb.rules - l.i
