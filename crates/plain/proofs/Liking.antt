@@ -4,7 +4,7 @@
 --   propagate-like                          of a whole propagation, from interpretations whose cells are alike
 -- Assumes nothing.
 use Prim.Native.Nat.{ℕ, zero, suc}
-use mathlib.Core.Path.{◌≡◌, refl, sym, ◌∙◌, ap, ap₂, fun_ext}
+use mathlib.Core.Path.{◌≡◌, refl, sym, ◌∙◌, ap, fun_ext}
 use mathlib.Core.Logic.{◌≢◌, ◌⊎◌, inl, inr}
 use mathlib.Core.Bool.{Bool, true, false, cond, ◌&&◌}
 use mathlib.Core.Option.{Option, none, some}
@@ -18,7 +18,7 @@ use Rattle.interpretation.specs.State.{Cell, undefined, defined, Interpretation,
 use Rattle.interpretation.specs.View.{cell_value}
 use Rattle.interpretation.specs.declared.Value.{Value}
 use Rattle.interpretation.specs.declared.Value.TheVariants.{True, False, Undefined}
-use Rattle.valuing.specs.Values.{says_true, says_false, says_undefined, Lit, value}
+use Rattle.valuing.specs.Values.{says_true, says_false, says_undefined, Lit}
 use Rattle.steps.specs.Steps.{Verdict, settled, conflict, is_settled, head_lits, body_lits, Work, set, refuted, if_settled, first_of, is_other, or_else, step_rule, rule_reason, witness, Support, add_support, support, set_all, step_e, step_d, step_true, step_de, step_atom, rule_pass, atom_pass, pass, passes, begin, propagate}
 use Rattle.valuing.proofs.Alike.{value_alike}
 use Rattle.rules.specs.declared.Step.{Step}

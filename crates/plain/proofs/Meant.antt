@@ -1,6 +1,6 @@
 -- A result that reports the outcome of the defined plain search on an accepted table is alike to what the jumping search ends with. (The meaning of demand 2 is `means`
 -- of crate `promises`.) Assumes nothing.
-use mathlib.Core.Path.{◌≡◌, refl, sym, ◌∙◌, ap}
+use mathlib.Core.Path.{◌≡◌, ◌∙◌, ap}
 use mathlib.Core.Logic.{◌≢◌, ◌⊎◌, inl, inr}
 use mathlib.Core.Bool.{Bool}
 use mathlib.Core.Option.{some}

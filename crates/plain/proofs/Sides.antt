@@ -5,7 +5,7 @@
 --   passes-test, fails-test, limit-test                              the final test;  spends: it spends no more choices than are left
 --   found_outcome    what the side of no choice at all holds is what the plain search ends with
 -- Assumes nothing.
-use Prim.Native.Nat.{ℕ, zero, suc, ◌+◌, ◌-◌, ◌≤◌, ◌<◌}
+use Prim.Native.Nat.{ℕ, suc, ◌+◌, ◌-◌, ◌≤◌, ◌<◌}
 use native.Mathlib.Omega.{arith}
 use mathlib.Core.Path.{◌≡◌, refl, sym, ◌∙◌, ap, subst}
 use mathlib.Core.Logic.{◌≢◌}
@@ -14,7 +14,6 @@ use mathlib.Core.Option.{none, some}
 use mathlib.Core.List.{List, []}
 use lib.IntN.{ℤ}
 use lib.ListN.{replicate}
-use Rattle.meaning.specs.Cond.{if_lt}
 use Rattle.meaning.specs.Aggregates.{Atoms}
 use Rattle.meaning.specs.Answers.{AnswerSet}
 use Rattle.meaning.specs.Program.{Program, AtomsIn}
@@ -31,7 +30,7 @@ use Rattle.layout.specs.declared.Table.{Table}
 use Rattle.layout.specs.Layout.{program_of}
 use Rattle.steps.specs.Steps as steps
 use Rattle.steps.specs.Steps.{Verdict, is_settled, Propagated, passes, begin, propagate}
-use Rattle.search.specs.Search.{Tested, passed, failed, exhausted, Problem, Result, no_answer, limit, Outcome, opened_as, plain, start, solve}
+use Rattle.search.specs.Search.{Tested, passed, failed, exhausted, Problem, Result, limit, Outcome, opened_as, plain, start, solve}
 use Rattle.search.specs.Laws.{Laws}
 use Rattle.search.specs.Engine as engine
 use Rattle.search.specs.Engine.{Tried, nothing, halted, no_reasons, by_test, or_other, opens, goes_on, tries}

@@ -1,5 +1,5 @@
 -- What the code does at one rule and at one atom, as the steps of crate `steps`: a law for each arm of the two matches. Assumes nothing.
-use Prim.Native.Nat.{ℕ, zero, suc, ◌+◌, ◌-◌, ◌≤◌, ◌<◌}
+use Prim.Native.Nat.{ℕ, zero, suc, ◌-◌, ◌≤◌, ◌<◌}
 use native.Mathlib.Omega.{arith}
 use mathlib.Core.Path.{◌≡◌, refl, sym, ap, ◌∙◌, subst, fun_ext}
 use mathlib.Core.Logic.{◌≢◌, ◌⊎◌, inl, inr}
@@ -11,7 +11,7 @@ use lib.ListN.{length, get_or, set}
 use lib.Seq.{get_or-set_same, get_or-set_other}
 use Rattle.meaning.specs.Cond.{if_eq}
 use Rattle.meaning.proofs.Cond.{if_eq_yes, if_eq_no, eq_case}
-use Rattle.interpretation.specs.State.{Cell, undefined, defined, put}
+use Rattle.interpretation.specs.State.{Cell, defined, put}
 use Rattle.interpretation.specs.View.{cell_by, valued, byte_of}
 use Rattle.interpretation.proofs.Laws.{cells_zero, cells_suc, cell_byte}
 use Rattle.meaning.specs.Program.{Rule}

@@ -3,7 +3,7 @@
 --   plain_is_jumping   the same kind, plan and refusal as `solver::solve`, which opens no more choices
 -- Assumes nothing.
 use mathlib.Core.Path.{◌≡◌, refl, sym, ◌∙◌, ap}
-use mathlib.Core.Logic.{◌≢◌, ◌⊎◌, inl, inr, ◌↔◌}
+use mathlib.Core.Logic.{◌≢◌, inl, inr, ◌↔◌}
 use mathlib.Core.Bool.{Bool}
 use mathlib.Core.List.{List}
 use Prim.Native.Nat.{ℕ, ◌≤◌}
@@ -17,10 +17,9 @@ use Rattle.results.specs.declared.Counts.{Counts}
 use Rattle.results.specs.Results.{number_of, place_of, Report, kind_of, counts_of, report_of, refusal_report}
 use Rattle.results.proofs.Determined.{report_determines}
 use Rattle.search.specs.Search.{Result, answer, no_answer, limit, Outcome}
-use Rattle.table.specs.Contents.{Contents}
 use Rattle.judging.specs.declared.Buffer.TheVariants.{Plan}
 use Rattle.judging.proofs.Judged.{DecidedBy, decided}
-use Rattle.promises.specs.Promises.{counted, reported, plan_after, solved_by}
+use Rattle.promises.specs.Promises.{counted, plan_after, solved_by}
 use Rattle.promises.proofs.Kept.{counts_by}
 use Rattle.solver.specs.Solving.{Solving}
 use Rattle.plain.specs.Promise.{plain_counts, Plainly}

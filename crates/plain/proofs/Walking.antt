@@ -1,10 +1,10 @@
 -- One rule, one atom and one pass further, up to levels and reasons; and after a conflict nothing is done. Assumes nothing.
 use Prim.Native.Nat.{ℕ, suc, ◌+◌, ◌-◌, ◌≤◌, ◌<◌}
-use mathlib.Core.Path.{◌≡◌, refl, sym, ap, ◌∙◌, subst}
+use mathlib.Core.Path.{◌≡◌, refl, ap, ◌∙◌, subst}
 use mathlib.Core.Bool.{Bool, true, false, cond}
-use mathlib.Core.List.{List, ◌∷◌}
+use mathlib.Core.List.{List}
 use lib.IntN.{ℤ}
-use Rattle.meaning.specs.Program.{Rule, Program}
+use Rattle.meaning.specs.Program.{Program}
 use Rattle.levels.specs.Levels.{Levels, no_levels}
 use Rattle.layout.specs.Layout.{past_rule, rule_at, rules_from}
 use Rattle.layout.proofs.Rounds.{rules_on, rules_none}

@@ -24,8 +24,8 @@ use results::{Ask, Refusal, Relaxed};
 use solver::plans;
 use table::Fault;
 
+pub mod choosing;
 pub mod kept;
-pub mod rules;
 
 // What is held while constraints are offered: how the last trial that counts ended, the numbers of the constraints kept, and the values of the plan.
 #[derive(Clone, Copy)]
@@ -68,7 +68,7 @@ fn attempt(
     requires { Laid t.now tb × Listed t.now tb lists.old }
     ensures { (result.kept ≡ kept) × (trial_of tb.atoms result ≡ trial cycles tb.atoms limit (rules_of (program_of t.now tb) (row kept))) × Listed t.now tb lists.new }
 {
-    rules::choose(t, tb, kept, lists);
+    choosing::choose(t, tb, kept, lists);
     let found = jumping::search(t, tb, cycles, lists, limit, candidates);
     let ending = found.ending;
     let it = found.it;
@@ -100,7 +100,7 @@ fn step(
     if !is_answer(ending) {
         return held;
     }
-    if rules::has_head(t, at) {
+    if choosing::has_head(t, at) {
         return held;
     }
     let had = held.kept;
@@ -161,7 +161,7 @@ fn write_dropped(t: &[i32], tb: Table, kept: Kept, dropped: &mut [u32]) -> usize
     let mut i: usize = 0;
     while i < tb.rules {
         i += 1;
-        let takes = rules::takes_part(t, at, kept, i);
+        let takes = choosing::takes_part(t, at, kept, i);
         let more = put(dropped, n, i as u32, !takes);
         n = more;
         let next = layout::past_rule(t, at);

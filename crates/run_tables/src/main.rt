@@ -7,37 +7,39 @@ mod output;
 
 use input::{MOST_BYTES, MOST_WORDS};
 use results::{Ask, Checked, Refusal, Solved};
+use std::io;
+use std::io::Read;
 
-fn print_refusal(refusal: Refusal) {
-    output::text(b"refused");
-    output::number(results::number(refusal) as u64);
-    output::number(results::place(refusal) as u64);
+fn print_refusal(rt: &impl Print, refusal: Refusal) -> io::Result<()> {
+    output::text(rt, b"refused")?;
+    output::number(rt, results::number(refusal) as u64)?;
+    output::number(rt, results::place(refusal) as u64)
 }
 
 // The solver's result, with the atoms of the plan; past them no byte is 1.
-fn print_solved(solved: Solved, plan: &[u8]) {
+fn print_solved(rt: &impl Print, solved: Solved, plan: &[u8]) -> io::Result<()> {
     match solved {
         Solved::Answer(_) => {
-            output::text(b"answer");
-            output::atoms(plan);
+            output::text(rt, b"answer")?;
+            output::atoms(rt, plan)
         }
-        Solved::Nothing(_) => output::text(b"none"),
-        Solved::Limit(_) => output::text(b"limit"),
-        Solved::Refused(refusal) => print_refusal(refusal),
+        Solved::Nothing(_) => output::text(rt, b"none"),
+        Solved::Limit(_) => output::text(rt, b"limit"),
+        Solved::Refused(refusal) => print_refusal(rt, refusal),
     }
 }
 
 // The check's result; whether it is no refusal.
-fn print_checked(checked: Checked) -> bool {
+fn print_checked(rt: &impl Print, checked: Checked) -> io::Result<bool> {
     match checked {
-        Checked::Yes => output::text(b"yes"),
-        Checked::No => output::text(b"no"),
+        Checked::Yes => output::text(rt, b"yes")?,
+        Checked::No => output::text(rt, b"no")?,
         Checked::Refused(refusal) => {
-            print_refusal(refusal);
-            return false;
+            print_refusal(rt, refusal)?;
+            return Ok(false);
         }
     }
-    true
+    Ok(true)
 }
 
 // How many plans there are for so many atoms; none are tried for more than 6.
@@ -85,7 +87,7 @@ fn is_approved(table: &[i32], plan: &[u8]) -> bool {
 }
 
 // Has every plan checked; how many are answer sets, and the checksum of which.
-fn print_all(table: &[i32], plan: &mut [u8], atoms: usize) {
+fn print_all(rt: &impl Print, table: &[i32], plan: &mut [u8], atoms: usize) -> io::Result<()> {
     let all = plans(atoms);
     let mut found = 0u64;
     let mut sum = 1u64;
@@ -93,32 +95,38 @@ fn print_all(table: &[i32], plan: &mut [u8], atoms: usize) {
     while code < all {
         set_plan(plan, atoms, code);
         if is_approved(table, plan) {
-            found = std::num::wrapping_add_u64(found, 1);
+            found = found.wrapping_add(1);
             sum = output::mixed(sum, code);
         }
         code += 1;
     }
-    output::text(b" /");
-    output::number(found);
-    output::number(sum);
+    output::text(rt, b" /")?;
+    output::number(rt, found)?;
+    output::number(rt, sum)
 }
 
 // The part of the line on all plans, for accepted tables of at most 6 atoms.
-fn print_plans(is_accepted: bool, table: &[i32], plan: &mut [u8]) {
+fn print_plans(
+    rt: &impl Print,
+    is_accepted: bool,
+    table: &[i32],
+    plan: &mut [u8],
+) -> io::Result<()> {
     if !is_accepted {
-        return;
+        return Ok(());
     }
     if table.len() == 0 {
-        return;
+        return Ok(());
     }
     let atoms = words::size(table[0]);
     if atoms <= 6 {
-        print_all(table, plan, atoms);
+        print_all(rt, table, plan, atoms)?;
     }
+    Ok(())
 }
 
 // A case's line.
-fn print_line(table: &[i32], plan: &mut [u8]) {
+fn print_line(rt: &impl Print, table: &[i32], plan: &mut [u8]) -> io::Result<()> {
     let checked = solver::approve(table, false, plan);
     let ask = Ask {
         cycles: false,
@@ -126,56 +134,65 @@ fn print_line(table: &[i32], plan: &mut [u8]) {
     };
     let solution = solver::solve(table, ask, plan);
     let solved = solution.solved;
-    print_solved(solved, plan);
-    output::text(b" /");
-    output::number(output::checksum(plan));
-    output::text(b" / ");
-    let is_accepted = print_checked(checked);
-    print_plans(is_accepted, table, plan);
-    output::text(b"\n");
+    print_solved(rt, solved, plan)?;
+    output::text(rt, b" /")?;
+    output::number(rt, output::checksum(plan))?;
+    output::text(rt, b" / ")?;
+    let is_accepted = print_checked(rt, checked)?;
+    print_plans(rt, is_accepted, table, plan)?;
+    output::text(rt, b"\n")
 }
 
 // The line of the case that lies in the first places of both.
-fn print_case(table: &[i32], count: usize, plan: &mut [u8], length: usize) {
+fn print_case(
+    rt: &impl Print,
+    table: &[i32],
+    count: usize,
+    plan: &mut [u8],
+    length: usize,
+) -> io::Result<()> {
     if count > table.len() {
-        return;
+        return Ok(());
     }
     if length > plan.len() {
-        return;
+        return Ok(());
     }
-    print_line(&table[..count], &mut plan[..length]);
+    print_line(rt, &table[..count], &mut plan[..length])
 }
 
 // The same of the arrays.
 fn print_arrays(
+    rt: &impl Print,
     table: &[i32; MOST_WORDS],
     count: usize,
     plan: &mut [u8; MOST_BYTES],
     length: usize,
-) {
-    print_case(table, count, plan, length);
+) -> io::Result<()> {
+    print_case(rt, table, count, plan, length)
 }
 
 // Reads a case and prints its line; whether there was one.
-fn run_case() -> bool {
-    let count = input::count();
-    let length = input::count();
-    let given = input::count();
+fn run_case(rt: &impl Print, input: &mut impl Read) -> io::Result<bool> {
+    let count = input::count(input)?;
+    let length = input::count(input)?;
+    let given = input::count(input)?;
     if count > MOST_WORDS {
-        return false;
+        return Ok(false);
     }
     let mut table = [0i32; MOST_WORDS];
     let mut plan = [7u8; MOST_BYTES];
-    input::read_words(&mut table, count);
-    input::read_bytes(&mut plan, given);
-    print_arrays(&table, count, &mut plan, length);
-    true
+    input::read_words(input, &mut table, count)?;
+    input::read_bytes(input, &mut plan, given)?;
+    print_arrays(rt, &table, count, &mut plan, length)?;
+    Ok(true)
 }
 
 // Nothing says that the input ends, so the turns are counted down from a number that no run uses up.
-fn main() {
+fn main(rt: HostRuntime) -> io::Result<()> {
+    let mut input = rt.stdin();
     let mut turns = u64::MAX;
-    while turns > 0 && run_case() {
+    while turns > 0 && run_case(&rt, &mut input)? {
         turns -= 1;
     }
+    Ok(())
 }

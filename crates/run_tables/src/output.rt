@@ -1,14 +1,14 @@
 // What is printed: texts, numbers, and the checksum of tools/cases.py.
-use libc::STDOUT_FILENO;
+use std::io;
 
-pub fn text(bytes: &[u8]) {
-    io::write_all(STDOUT_FILENO, bytes);
+pub fn text(rt: &impl Print, bytes: &[u8]) -> io::Result<()> {
+    rt.write_all(bytes)
 }
 
 // A space and the number.
-pub fn number(n: u64) {
-    text(b" ");
-    io::print_decimal(STDOUT_FILENO, n);
+pub fn number(rt: &impl Print, n: u64) -> io::Result<()> {
+    text(rt, b" ")?;
+    print!(rt; "{n}")
 }
 
 // The checksum with one more number.
@@ -32,12 +32,13 @@ pub fn checksum(bytes: &[u8]) -> u64 {
 }
 
 // The number of each byte that is 1, from 1.
-pub fn atoms(bytes: &[u8]) {
+pub fn atoms(rt: &impl Print, bytes: &[u8]) -> io::Result<()> {
     let mut i = 0;
     while i < bytes.len() {
         if bytes[i] == 1 {
-            number(i as u64 + 1);
+            number(rt, i as u64 + 1)?;
         }
         i += 1;
     }
+    Ok(())
 }

@@ -221,9 +221,7 @@ atoms-preserved c =
       y.above,
     )
 
--- At each goal behind the passes: let p = propagates (goal.at.GOAL c).Left-rules in let l = long (goal.at.GOAL c).Left-rules in ..
--- p : Handed .. c.rules-test.it c.rules-test.reasons c.rules-test.why c.rules-test.out; tried at open-it-requires.
--- Where a tactic is to read l, write its type: let l : length c.rules-test.reasons ≡ 256 = long .. in
+-- ---- the passes
 
 pub passes-smaller : goal.passes-smaller
 passes-smaller c =

@@ -1,4 +1,4 @@
--- `relaxer::rules::choose` meets its contract. The invariant of its loop: the n places that stand behind the bounds, and those to come, are the places of all rules that
+-- `relaxer::choosing::choose` meets its contract. The invariant of its loop: the n places that stand behind the bounds, and those to come, are the places of all rules that
 -- take part; the words before, and those behind the room for all rules, stay. The measure is the number of rules to come. Assumes nothing.
 use mathlib.Core.Path.{◌≡◌}
 use mathlib.Core.List.{◌++◌}
@@ -9,7 +9,7 @@ use Rattle.layout.specs.Layout.{RulesLie}
 use Rattle.heads.specs.Heads.{bounds, size}
 use Rattle.heads.proofs.Lists.{part}
 use Rattle.relaxer.specs.Offering.{kept_from, kept_places}
-use Rattle.relaxer.proofs.rules.choose.Given as goal
+use Rattle.relaxer.proofs.choosing.choose.Given as goal
 
 abbrev pub invariant-loop-i : goal.invariant-loop-i
 invariant-loop-i l =

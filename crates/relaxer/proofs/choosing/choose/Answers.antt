@@ -1,4 +1,4 @@
--- `relaxer::rules::choose` meets its contract. The invariant of its loop: the n places that stand behind the bounds, and those to come, are the places of all rules that
+-- `relaxer::choosing::choose` meets its contract. The invariant of its loop: the n places that stand behind the bounds, and those to come, are the places of all rules that
 -- take part; the words before, and those behind the room for all rules, stay. The measure is the number of rules to come. Assumes nothing.
 use mathlib.Core.Path.{◌≡◌, sym, ap, ◌∙◌, subst}
 use mathlib.Core.List.{List, ◌++◌, append-nil}
@@ -14,7 +14,7 @@ use Rattle.heads.proofs.Lists.{part}
 use Rattle.relaxer.specs.Offering.{kept_places}
 use Rattle.relaxer.proofs.Places.{kept_none, kept_part, places_on, bit≤1}
 use Rattle.relaxer.proofs.Chosen.{put_before, put_behind, put_long, chosen_listed, chosen_places}
-use Rattle.relaxer.proofs.rules.choose.Goals as goal
+use Rattle.relaxer.proofs.choosing.choose.Goals as goal
 
 pub takes_part-takes-requires : goal.takes_part-takes-requires
 takes_part-takes-requires c =

@@ -1,4 +1,4 @@
--- `relaxer::rules::has_head` meets its contract. Assumes nothing.
+-- `relaxer::choosing::has_head` meets its contract. Assumes nothing.
 use borrow.Author.Tests.{lt-ltb}
 use native.Mathlib.Omega.{arith}
 use mathlib.Core.Path.{◌≡◌, refl, sym, ap, ◌∙◌}
@@ -9,7 +9,7 @@ use lib.ListN.{length}
 use Rattle.layout.specs.Layout.{atoms, part_at}
 use Rattle.heads.proofs.Walks.{head_is}
 use Rattle.relaxing.specs.Relaxing.{some_in}
-use Rattle.relaxer.proofs.rules.has_head.Goals as goal
+use Rattle.relaxer.proofs.choosing.has_head.Goals as goal
 
 -- a list has a member exactly if it has a length
 some_long : (l : List ℤ) → ltb 0 (length l) ≡ some_in (atoms l)
