@@ -15,9 +15,9 @@
  * - Nothing is kept but in a session that the caller lends, nothing is allocated, there is no global memory. Calls may
  *   run in parallel.
  * - The library calls memcpy and memset, and nothing else of the C library.
- * - Stack, beside what is lent, in bytes, measured on x86-64 (docs/PERFORMANCE.md): solve 18,696, approve 5,416, list 41,800,
- *   plan 41,912, relax 42,360, open 3,512, pin and unpin next to nothing, read_aspif 5,496, write_aspif 4,088, store 3,512,
- *   restore 3,576; plain 458,920 at 256 choices, one inside the other.
+ * - Stack, beside what is lent, in bytes, measured on x86-64 (docs/PERFORMANCE.md): solve 37,640, approve 5,640, list 53,560,
+ *   plan 54,664, relax 53,528, open 3,752, pin and unpin next to nothing, read_aspif 5,528, write_aspif 4,312, store 3,752,
+ *   restore 3,832; plain 438,536 at 256 choices, one inside the other.
  * - A report that is shorter than what an entry writes there is not written at all. The check leaves it alone on yes and no.
  * - `mode` is SAUCEPEBBLY_OLD (0) or SAUCEPEBBLY_HEAD_CYCLES; any other number is taken as the latter. In the old mode a table with a head
  *   cycle is refused with SAUCEPEBBLY_HEAD_CYCLE. In the other it is not, and the search for a smaller model takes the place of the

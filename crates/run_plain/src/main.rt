@@ -3,8 +3,9 @@
 // though the plain one has not met it. tools/plain.py makes the texts and the lines of `stdout`.
 #![tactic(auto)]
 
-use libc::{STDIN_FILENO, STDOUT_FILENO};
 use results::{Ask, Solved};
+use std::io;
+use std::io::Read;
 use text::printer::print;
 use text::reader::{Reading, read};
 
@@ -15,15 +16,15 @@ const MOST_BYTES: usize = 65537;
 const LINE: usize = 1100;
 
 // The line of a result, by way of a buffer.
-fn write_line(solved: Solved, plan: &[u8], out: &mut [u8]) {
+fn write_line(rt: &impl Print, solved: Solved, plan: &[u8], out: &mut [u8]) -> io::Result<()> {
     let wrote = print(solved, 256, plan, out);
-    io::write_all(STDOUT_FILENO, &out[..wrote]);
+    rt.write_all(&out[..wrote])
 }
 
 // The line of a result.
-fn print_line(solved: Solved, plan: &[u8]) {
+fn print_line(rt: &impl Print, solved: Solved, plan: &[u8]) -> io::Result<()> {
     let mut out = [0u8; LINE];
-    write_line(solved, plan, &mut out);
+    write_line(rt, solved, plan, &mut out)
 }
 
 // The kind of a result: 0 answer, 1 none, 2 limit; of a refusal its number and place, past all kinds.
@@ -50,89 +51,105 @@ fn same_plan(a: &[u8; 256], b: &[u8; 256]) -> bool {
 }
 
 // Both engines on a table.
-fn run_table(words: &[i32], limit: u32) {
+fn run_table(rt: &impl Print, words: &[i32], limit: u32) -> io::Result<()> {
     let mut plan = [0u8; 256];
     let ask = Ask {
         cycles: false,
         limit,
     };
     let solved = plain::solve(words, ask, &mut plan);
-    print_line(solved, &plan);
+    print_line(rt, solved, &plan)?;
     let mut other = [0u8; 256];
     let solution = solver::solve(words, ask, &mut other);
     let jumped = solution.solved;
     let kind = code(solved);
     if kind != 2 {
         if kind != code(jumped) || !same_plan(&plan, &other) {
-            io::write_all(STDOUT_FILENO, b"differs\n");
+            rt.write_all(b"differs\n")?;
         }
     }
+    Ok(())
 }
 
 // Both engines on the table of a text.
-fn run_bytes(bytes: &[u8]) {
+fn run_bytes(rt: &impl Print, bytes: &[u8]) -> io::Result<()> {
     let mut words = [0i32; 32768];
     let reading = read(bytes, &mut words);
     match reading {
-        Reading::Read(limit, count) => run_table(&words[..count], limit),
-        Reading::Refused(f) => print_line(Solved::Refused(f), &[0u8; 256]),
+        Reading::Read(limit, count) => run_table(rt, &words[..count], limit),
+        Reading::Refused(f) => print_line(rt, Solved::Refused(f), &[0u8; 256]),
     }
+}
+
+// Reads until the buffer is full or the input ends.
+fn read_full(input: &mut impl Read, buffer: &mut [u8]) -> io::Result<()> {
+    let mut done = 0;
+    while done < buffer.len() {
+        let n = input.read(&mut buffer[done..])?;
+        if n == 0 {
+            break;
+        }
+        done += n;
+    }
+    Ok(())
 }
 
 // The next byte, 255 at the end of the input.
-fn next_byte() -> u8 {
+fn next_byte(input: &mut impl Read) -> io::Result<u8> {
     let mut one = [255u8; 1];
-    io::read_full(STDIN_FILENO, &mut one);
-    one[0]
+    read_full(input, &mut one)?;
+    Ok(one[0])
 }
 
 // The next four bytes, low byte first.
-fn four_bytes() -> u32 {
-    let a = next_byte();
-    let b = next_byte();
-    let c = next_byte();
-    let d = next_byte();
-    (a as u32) | ((b as u32) << 8) | ((c as u32) << 16) | ((d as u32) << 24)
+fn four_bytes(input: &mut impl Read) -> io::Result<u32> {
+    let a = next_byte(input)?;
+    let b = next_byte(input)?;
+    let c = next_byte(input)?;
+    let d = next_byte(input)?;
+    Ok((a as u32) | ((b as u32) << 8) | ((c as u32) << 16) | ((d as u32) << 24))
 }
 
 // The length of the next text; at the end of the input more than any text has.
-fn next_length() -> usize {
-    four_bytes() as usize
+fn next_length(input: &mut impl Read) -> io::Result<usize> {
+    Ok(four_bytes(input)? as usize)
 }
 
 // Reads a text of this length into the buffer.
-fn read_text(buffer: &mut [u8], length: usize) {
+fn read_text(input: &mut impl Read, buffer: &mut [u8], length: usize) -> io::Result<()> {
     if length > buffer.len() {
-        return;
+        return Ok(());
     }
-    io::read_full(STDIN_FILENO, &mut buffer[..length]);
+    read_full(input, &mut buffer[..length])
 }
 
 // The table of the text that lies in the first places of the buffer; whether it lies there.
-fn run_text(buffer: &[u8], length: usize) -> bool {
+fn run_text(rt: &impl Print, buffer: &[u8], length: usize) -> io::Result<bool> {
     if length > buffer.len() {
-        return false;
+        return Ok(false);
     }
-    run_bytes(&buffer[..length]);
-    true
+    run_bytes(rt, &buffer[..length])?;
+    Ok(true)
 }
 
 // Reads a text and puts its table through both engines; whether there was one.
-fn run_next(buffer: &mut [u8]) -> bool {
-    let length = next_length();
-    read_text(buffer, length);
-    run_text(buffer, length)
+fn run_next(rt: &impl Print, input: &mut impl Read, buffer: &mut [u8]) -> io::Result<bool> {
+    let length = next_length(input)?;
+    read_text(input, buffer, length)?;
+    run_text(rt, buffer, length)
 }
 
-fn run() -> bool {
+fn run(rt: &impl Print, input: &mut impl Read) -> io::Result<bool> {
     let mut buffer = [0u8; MOST_BYTES];
-    run_next(&mut buffer)
+    run_next(rt, input, &mut buffer)
 }
 
 // Nothing says that the input ends, so the turns are counted down from a number that no run uses up.
-fn main() {
+fn main(rt: HostRuntime) -> io::Result<()> {
+    let mut input = rt.stdin();
     let mut turns = u64::MAX;
-    while turns > 0 && run() {
+    while turns > 0 && run(&rt, &mut input)? {
         turns -= 1;
     }
+    Ok(())
 }
