@@ -8,12 +8,7 @@ ghost use Rattle.std.specs.Int.Signed.{non_neg};
 pub fn size(w: i32) -> usize
     ensures { result ≡ nat_abs w }
 {
-    let x = w as i64;
-    if x < 0 {
-        let m = 0 - x;
-        return m as usize;
-    }
-    x as usize
+    w.unsigned_abs() as usize
 }
 
 // Whether a word is below 0.
