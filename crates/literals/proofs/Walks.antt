@@ -16,7 +16,7 @@ use Rattle.interpretation.specs.declared.Value.{Value}
 use Rattle.layout.specs.Layout.{atoms}
 use Rattle.valuing.specs.Values.{says_false, Lit, value}
 use Rattle.valuing.specs.Reasons.{reason_at, reason_of, reasons_of}
-use Rattle.literals.specs.declared.First.TheVariants.{At, Nothing}
+use Rattle.std.specs.Prelude.{Some, None}
 use Rattle.literals.specs.Scan.{first_from, atoms_reason}
 use Rattle.literals.proofs.Scans.{first_none, first_at, first_later}
 use Rattle.literals.proofs.Together.{union_assoc}
@@ -38,10 +38,10 @@ module _ {A : Type 0} (g : ℤ → A) (f : A → Lit) (a : ℕ → Cell) (l : Li
   walk_on h v e n =
       ap (first_from a i) (lits_on h) ∙ first_later a i here (lits (suc i)) (ap says_false (sym e) ∙ n) ∙ ap (λ (j : ℕ). first_from a j (lits j)) (sym (add-one i))
 
-  pub walk_false : i < length l → (v : Value) → v ≡ value a here → says_false v ≡ true → first_from a i (lits i) ≡ At i
+  pub walk_false : i < length l → (v : Value) → v ≡ value a here → says_false v ≡ true → first_from a i (lits i) ≡ Some i
   walk_false h v e n = ap (first_from a i) (lits_on h) ∙ first_at a i here (lits (suc i)) (ap says_false (sym e) ∙ n)
 
-  pub walk_end : length l ≤ i → first_from a i (lits i) ≡ Nothing
+  pub walk_end : length l ≤ i → first_from a i (lits i) ≡ None
   walk_end h = ap (λ (m : List ℤ). first_from a i (map f (map g m))) (drop_of_length-le l h) ∙ first_none a i
 
 -- ---- reasons

@@ -8,7 +8,7 @@ ghost use Rattle.levels.specs.Levels.{union};
 ghost use Rattle.levels.specs.View.{row, rows};
 ghost use Rattle.interpretation.specs.View.{valued, cell_by, cell_value};
 ghost use Rattle.layout.specs.Layout.{Laid, Members, atoms, literal_of};
-ghost use Rattle.valuing.specs.Values.{says_true, says_false, signed, agg_lit, literal_value};
+ghost use Rattle.valuing.specs.Values.{says_true, signed, agg_lit, literal_value};
 ghost use Rattle.valuing.specs.Reasons.{reason_at, reason_of, reasons_of};
 ghost use Rattle.literals.specs.Scan.{atom_lits, literal_lits, first_false, atoms_reason};
 
@@ -18,24 +18,7 @@ use layout::Table;
 mod aggregates;
 mod settling;
 
-// The first false literal of a list, by its index from 0; or none is false.
-#[derive(Clone, Copy)]
-pub enum First {
-    At(usize),
-    Nothing,
-}
-
 // ---- one value
-
-pub fn refutes(v: Value) -> bool
-    ensures { result ≡ says_false v }
-{
-    match v {
-        Value::True => false,
-        Value::False => true,
-        Value::Undefined => false,
-    }
-}
 
 // With the sign false, the opposite.
 pub fn signed(sign: bool, v: Value) -> Value
@@ -74,21 +57,18 @@ pub fn affirms(sign: bool, b: u8) -> bool
 
 // ---- lists of atoms
 
-// The first false one of a list of atoms taken as literals, plain or negated.
-pub fn false_atom(l: &[i32], sign: bool, values: &[u8; 256]) -> First
+// The first false one of a list of atoms taken as literals, plain or negated: its index from 0.
+pub fn false_atom(l: &[i32], sign: bool, values: &[u8; 256]) -> Option<usize>
     requires { Members 256 l.now }
     ensures { result ≡ first_false (valued values.now) (atom_lits sign l.now) }
 {
-    let mut i: usize = 0;
-    while i < l.len() {
-        let p = words::atom(l, i);
-        let v = signed(sign, interpretation::value_of(values, p));
-        if refutes(v) {
-            return First::At(i);
+    for (i, w) in l.iter().enumerate() {
+        let v = interpretation::value_of(values, words::size(*w));
+        if signed(sign, v) == Value::False {
+            return Some(i);
         }
-        i += 1;
     }
-    First::Nothing
+    None
 }
 
 // The reason of atom p joined to a set.
@@ -151,20 +131,17 @@ pub fn literal_value(t: &[i32], tb: Table, l: &[i32], k: usize, values: &[u8; 25
     signed(aggregates::plain(l, k), v)
 }
 
-// The first false one of a list of aggregate literals.
-pub fn false_literal(t: &[i32], tb: Table, l: &[i32], values: &[u8; 256]) -> First
+// The first false one of a list of aggregate literals: its index from 0.
+pub fn false_literal(t: &[i32], tb: Table, l: &[i32], values: &[u8; 256]) -> Option<usize>
     requires { Laid t.now tb × Members tb.aggregates l.now }
     ensures { result ≡ first_false (valued values.now) (literal_lits t.now l.now) }
 {
-    let mut k: usize = 0;
-    while k < l.len() {
-        let v = literal_value(t, tb, l, k, values);
-        if refutes(v) {
-            return First::At(k);
+    for k in 0..l.len() {
+        if literal_value(t, tb, l, k, values) == Value::False {
+            return Some(k);
         }
-        k += 1;
     }
-    First::Nothing
+    None
 }
 
 // The reason of the aggregate literal at index k of a list, joined to a set: the union over elements that settle it.
