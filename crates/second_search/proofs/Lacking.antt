@@ -1,12 +1,18 @@
--- Whether an atom is lacking, from the last atom down; and the true atoms, and the lowest undefined one, by the values alone. Assumes nothing.
-use Prim.Native.Nat.{ℕ, zero, suc, ◌-◌, ◌≤◌, ◌<◌}
+-- Whether an atom is lacking among the first ones; and the true atoms, and the lowest undefined one, by the values alone. Assumes nothing.
+use Prim.Native.Nat.{ℕ, zero, suc, ◌+◌, ◌-◌, ◌≤◌, ◌<◌}
 use native.Mathlib.Omega.{arith}
-use mathlib.Core.Path.{◌≡◌, refl, sym, ap, ap₂, ◌∙◌, fun_ext}
+use native.Mathlib.Numerals.{add-one}
+use mathlib.Core.Path.{◌≡◌, refl, sym, ap, ap₂, ◌∙◌, subst, fun_ext}
 use mathlib.Core.Bool.{Bool, true, false, not, ◌&&◌, ◌||◌}
+use mathlib.Core.Logic.{◌≢◌, ◌⊎◌, inl, inr}
 use mathlib.Core.Option.{Option, none, some}
-use mathlib.Core.List.{List}
-use lib.ListN.{get_or}
+use mathlib.Core.List.{List, []}
+use lib.ListN.{length, get_or, take}
+use Rattle.std.specs.List.{AllWithin, HoldsAt}
+use Rattle.std.proofs.lemmas.List.{get_or-take, length-take}
+use Rattle.interpretation.proofs.Laws.{lowest_zero, lowest_here, lowest_later}
 use Rattle.meaning.specs.Cond.{if_lt}
+use Rattle.meaning.proofs.Cond.{eq_case}
 use Rattle.interpretation.specs.State.{truth_of, true_atoms, lowest, lowest_step}
 use Rattle.interpretation.specs.View.{cell_by, blank, cells, valued}
 use Rattle.interpretation.specs.declared.Record.{Record}
@@ -23,9 +29,25 @@ module _ (X Y : Atoms) where
   lacks_none zero h = refl
   lacks_none (suc p) h = absurd (omega arith)
 
-  pub lacks_here : (p : ℕ) → 0 < p → X p ≡ true → Y p ≡ false → lacks_to X Y p ≡ true
+  lacks_here : (p : ℕ) → 0 < p → X p ≡ true → Y p ≡ false → lacks_to X Y p ≡ true
   lacks_here zero h x y = absurd (omega arith)
   lacks_here (suc p) h x y = ap (λ (b : Bool). b || lacks_to X Y p) (ap₂ (λ (a b : Bool). a && not b) x y)
+
+  lacks_on : (n : ℕ) → lacks_to X Y n ≡ true → lacks_to X Y (suc n) ≡ true
+  lacks_on n e = ap (λ (b : Bool). (X (suc n) && not (Y (suc n))) || b) e ∙ at (X (suc n) && not (Y (suc n)))
+    where
+      at : (a : Bool) → (a || true) ≡ true
+      at true = refl
+      at false = refl
+
+  -- an atom of 1 .. n is lacking
+  pub lacks_at : (n p : ℕ) → 0 < p → p ≤ n → X p ≡ true → Y p ≡ false → lacks_to X Y n ≡ true
+  lacks_at zero p h g x y = absurd (omega arith)
+  lacks_at (suc n) p h g x y = at (eq_case p (suc n)) (λ k. lacks_at n p h k x y)
+    where
+      at : (p ≡ suc n) ⊎ (p ≢ suc n) → (p ≤ n → lacks_to X Y n ≡ true) → lacks_to X Y (suc n) ≡ true
+      at (inl e) f = ap (lacks_to X Y) (sym e) ∙ lacks_here p h x y
+      at (inr m) f = lacks_on n (f (omega arith))
 
   pub lacks_not : (p : ℕ) → 0 < p → X p ≡ false → lacks_to X Y p ≡ lacks_to X Y (p - 1)
   lacks_not zero h x = absurd (omega arith)
@@ -71,3 +93,22 @@ unfolding lowest cells
 lowest_alone zero vs rs = refl
 lowest_alone (suc n) vs rs =
     ap (λ (o : Option ℕ). lowest_step o (suc n) (cell_by (get_or vs n 0) (get_or rs n blank).level)) (lowest_alone n vs rs) ∙ step_by_lem (lowest (valued vs) n) (suc n) (get_or vs n 0) (get_or rs n blank).level 0
+
+-- ---- the first value that is 0, among the first n
+
+module _ (vs : List ℕ) where
+  lowest_up : (l : List ℕ) (i : ℕ) → AllWithin (λ (v : ℕ). 0 < v) l 0 i → ((k : ℕ) → k < i → get_or l k 0 ≡ get_or vs k 0) → lowest (valued vs) i ≡ none
+  lowest_up l zero h g = lowest_zero (valued vs)
+  lowest_up l (suc i) h g =
+      let n : get_or vs i 0 ≡ 0 → ⊥ = λ e. let z = g i (omega arith) ∙ e in let y = h i 0 (omega arith) (omega arith) in omega arith in
+      ap (lowest (valued vs)) (sym (add-one i)) ∙ lowest_later vs [] i (lowest_up l i (λ k d a b. h k d a (omega arith)) (λ k a. g k (omega arith))) n
+
+  pub lowest_of_first : (n i : ℕ) → i < length (take n vs) → n ≤ length vs → HoldsAt (λ (v : ℕ). v ≡ 0) (take n vs) i → AllWithin (λ (v : ℕ). 0 < v) (take n vs) 0 i → some (i + 1) ≡ lowest (valued vs) n
+  lowest_of_first n i k s h g =
+      let m : i < n = omega (arith, length-take n vs) in
+      lowest_here vs [] i (lowest_up (take n vs) i g (λ j a. get_or-take n vs j 0 (omega arith))) n m (sym (get_or-take n vs i 0 m) ∙ h 0)
+
+  pub lowest_of_none : (n : ℕ) → n ≤ length vs → AllWithin (λ (v : ℕ). 0 < v) (take n vs) 0 (length (take n vs)) → none ≡ lowest (valued vs) n
+  lowest_of_none n s g =
+      let e : length (take n vs) ≡ n = omega (arith, length-take n vs) in
+      sym (lowest_up (take n vs) n (subst (AllWithin (λ (v : ℕ). 0 < v) (take n vs) 0) e g) (λ j a. get_or-take n vs j 0 a))

@@ -30,6 +30,7 @@ pub enum Tested {
 }
 
 // What a pass, or passes, did: whether an atom was set, and whether there was a conflict.
+// Stays: two flags: a pass may set atoms and then meet a conflict, and the contracts of `rule_steps` and `propagate` tell of both.
 #[derive(Clone, Copy)]
 pub struct Steps {
     pub changed: bool,
@@ -85,10 +86,8 @@ pub fn rule_steps(
         × Like (work_of level (cells_at values.new levels.new) result.changed result.conflict) (pass (reduct (map (rule_at t.now) places.now) (true_atoms tb.atoms (valued candidate.now))) 0 (work_of level (cells_at values.old levels.old) false false)) }
 {
     let mut changed = false;
-    let mut i: usize = 0;
-    while i < places.len() {
-        let at = places[i] as usize;
-        let step = asked(t, tb, at, candidate, values);
+    for place in places {
+        let step = asked(t, tb, *place as usize, candidate, values);
         match step {
             Step::Nothing => {}
             Step::Conflict => {
@@ -102,7 +101,6 @@ pub fn rule_steps(
                 changed = true;
             }
         }
-        i += 1;
     }
     Steps {
         changed,
@@ -124,9 +122,8 @@ pub fn propagate(
     ensures { Whole values.new levels.new
         × Like (work_of level (cells_at values.new levels.new) result.changed result.conflict) (passes (reduct (map (rule_at t.now) places.now) (true_atoms tb.atoms (valued candidate.now))) 0 (suc tb.atoms) (work_of level (cells_at values.old levels.old) false false)) }
 {
-    let mut left = tb.atoms + 1;
     let mut changed = false;
-    while 0 < left {
+    for left in (0..tb.atoms + 1).rev() {
         let made = rule_steps(t, tb, places, candidate, level, values, levels);
         if made.conflict {
             return made;
@@ -135,7 +132,6 @@ pub fn propagate(
             return made;
         }
         changed = true;
-        left -= 1;
     }
     Steps {
         changed,
@@ -148,14 +144,10 @@ pub fn lacks_one(candidate: &[u8; 256], values: &[u8; 256], n: usize) -> bool
     requires { n ≤ 256 }
     ensures { result ≡ lacks_one n (true_atoms n (valued candidate.now)) (true_atoms n (valued values.now)) }
 {
-    let mut p = n;
-    while 0 < p {
-        if foundation::is_true(candidate, p) {
-            if !foundation::is_true(values, p) {
-                return true;
-            }
+    for p in 1..n + 1 {
+        if foundation::is_true(candidate, p) && !foundation::is_true(values, p) {
+            return true;
         }
-        p -= 1;
     }
     false
 }
@@ -165,16 +157,11 @@ pub fn lowest_undefined(values: &[u8; 256], n: usize) -> Choice
     requires { n ≤ 256 }
     ensures { found result ≡ lowest (valued values.now) n }
 {
-    let mut i: usize = 0;
-    while i < n {
-        let value = values[i];
-        if value == 0 {
-            let p = i + 1;
-            return Choice::Atom(p);
-        }
-        i += 1;
+    let first = values[..n].iter().position(|value| *value == 0);
+    match first {
+        Some(i) => Choice::Atom(i + 1),
+        None => Choice::Nothing,
     }
-    Choice::Nothing
 }
 
 // What is to be done after a propagation. "keeping all atoms not counting as smaller": then it goes back as after a conflict.
@@ -242,6 +229,7 @@ pub fn look(t: &[i32], tb: Table, places: &[u16], candidate: &[u8; 256], left: u
 }
 
 // Whether a candidate has a smaller model, over the rules at the places: "The check makes the test with no limit". The same search; it counts nothing.
+// Stays: a loop beside that of `look`: with no limit a count of the choices fits no width, and one loop for both would test an option at each choice.
 pub fn has_smaller(t: &[i32], tb: Table, places: &[u16], candidate: &[u8; 256]) -> bool
     requires { Laid t.now tb × AllLie tb t.now places.now × AllDefined tb.atoms (valued candidate.now) }
     ensures { result ≡ has_smaller (map (rule_at t.now) places.now) tb.atoms (true_atoms tb.atoms (valued candidate.now)) }

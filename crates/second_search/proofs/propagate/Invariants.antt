@@ -16,6 +16,3 @@ invariant-loop-left l =
     Whole l.values l.levels
     × Like (passes (reduct (map (rule_at l.t) l.places) (true_atoms l.tb.atoms (valued l.candidate))) 0 l.left (work_of l.level (cells_at l.values l.levels) l.changed false))
     (passes (reduct (map (rule_at l.t) l.places) (true_atoms l.tb.atoms (valued l.candidate))) 0 (suc l.tb.atoms) (work_of l.level (cells_at l.initial.values l.initial.levels) false false))
-
-abbrev pub decreases-loop-left : goal.decreases-loop-left
-decreases-loop-left l = l.left

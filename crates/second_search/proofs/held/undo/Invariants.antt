@@ -7,6 +7,3 @@ use Rattle.second_search.proofs.held.undo.Given as goal
 
 abbrev pub invariant-loop-i : goal.invariant-loop-i
 invariant-loop-i l = (l.i ≤ 256) × Whole l.values l.levels × (cells_at l.values l.levels ≡ partly l.m l.i (cells_at l.initial.values l.initial.levels))
-
-abbrev pub decreases-loop-i : goal.decreases-loop-i
-decreases-loop-i l = l.i
