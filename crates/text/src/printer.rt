@@ -23,10 +23,8 @@ fn put(text: &[u8], at: usize, out: &mut [u8]) -> usize
     ensures { Put out.old at text.now result out.new }
 {
     let mut to = at;
-    let mut i: usize = 0;
-    while i < text.len() {
-        to = put_byte(text[i], to, out);
-        i += 1;
+    for b in text {
+        to = put_byte(*b, to, out);
     }
     to
 }
@@ -73,28 +71,15 @@ fn put_atom(p: usize, b: u8, at: usize, out: &mut [u8]) -> usize
     at
 }
 
-// The lesser of two numbers.
-fn least(a: usize, b: usize) -> usize
-    ensures { result ≡ min a b }
-{
-    if a < b {
-        return a;
-    }
-    b
-}
-
 // The true atoms among the first `atoms`, of which there are at most 256.
 fn put_atoms(atoms: usize, plan: &[u8], at: usize, out: &mut [u8]) -> usize
     requires { at ≤ length out.old }
     ensures { Put out.old at (atoms_from 1 (take (min atoms 256) plan.now)) result out.new }
 {
-    let top = least(least(atoms, 256), plan.len());
+    let shown = &plan[..atoms.min(256).min(plan.len())];
     let mut to = at;
-    let mut i: usize = 0;
-    while i < top {
-        let p = i + 1;
-        to = put_atom(p, plan[i], to, out);
-        i += 1;
+    for (i, b) in shown.iter().enumerate() {
+        to = put_atom(i + 1, *b, to, out);
     }
     to
 }
