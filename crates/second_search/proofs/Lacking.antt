@@ -1,16 +1,12 @@
 -- Whether an atom is lacking among the first ones; and the true atoms, and the lowest undefined one, by the values alone. Assumes nothing.
-use Prim.Native.Nat.{ℕ, zero, suc, ◌+◌, ◌-◌, ◌≤◌, ◌<◌}
+use Prim.Native.Nat.{ℕ, zero, suc, ◌-◌, ◌≤◌, ◌<◌}
 use native.Mathlib.Omega.{arith}
-use native.Mathlib.Numerals.{add-one}
-use mathlib.Core.Path.{◌≡◌, refl, sym, ap, ap₂, ◌∙◌, subst, fun_ext}
+use mathlib.Core.Path.{◌≡◌, refl, sym, ap, ap₂, ◌∙◌, fun_ext}
 use mathlib.Core.Bool.{Bool, true, false, not, ◌&&◌, ◌||◌}
 use mathlib.Core.Logic.{◌≢◌, ◌⊎◌, inl, inr}
 use mathlib.Core.Option.{Option, none, some}
-use mathlib.Core.List.{List, []}
-use lib.ListN.{length, get_or, take}
-use Rattle.std.specs.List.{AllWithin, HoldsAt}
-use Rattle.std.proofs.lemmas.List.{get_or-take, length-take}
-use Rattle.interpretation.proofs.Laws.{lowest_zero, lowest_here, lowest_later}
+use mathlib.Core.List.{List}
+use lib.ListN.{get_or}
 use Rattle.meaning.specs.Cond.{if_lt}
 use Rattle.meaning.proofs.Cond.{eq_case}
 use Rattle.interpretation.specs.State.{truth_of, true_atoms, lowest, lowest_step}
@@ -93,22 +89,3 @@ unfolding lowest cells
 lowest_alone zero vs rs = refl
 lowest_alone (suc n) vs rs =
     ap (λ (o : Option ℕ). lowest_step o (suc n) (cell_by (get_or vs n 0) (get_or rs n blank).level)) (lowest_alone n vs rs) ∙ step_by_lem (lowest (valued vs) n) (suc n) (get_or vs n 0) (get_or rs n blank).level 0
-
--- ---- the first value that is 0, among the first n
-
-module _ (vs : List ℕ) where
-  lowest_up : (l : List ℕ) (i : ℕ) → AllWithin (λ (v : ℕ). 0 < v) l 0 i → ((k : ℕ) → k < i → get_or l k 0 ≡ get_or vs k 0) → lowest (valued vs) i ≡ none
-  lowest_up l zero h g = lowest_zero (valued vs)
-  lowest_up l (suc i) h g =
-      let n : get_or vs i 0 ≡ 0 → ⊥ = λ e. let z = g i (omega arith) ∙ e in let y = h i 0 (omega arith) (omega arith) in omega arith in
-      ap (lowest (valued vs)) (sym (add-one i)) ∙ lowest_later vs [] i (lowest_up l i (λ k d a b. h k d a (omega arith)) (λ k a. g k (omega arith))) n
-
-  pub lowest_of_first : (n i : ℕ) → i < length (take n vs) → n ≤ length vs → HoldsAt (λ (v : ℕ). v ≡ 0) (take n vs) i → AllWithin (λ (v : ℕ). 0 < v) (take n vs) 0 i → some (i + 1) ≡ lowest (valued vs) n
-  lowest_of_first n i k s h g =
-      let m : i < n = omega (arith, length-take n vs) in
-      lowest_here vs [] i (lowest_up (take n vs) i g (λ j a. get_or-take n vs j 0 (omega arith))) n m (sym (get_or-take n vs i 0 m) ∙ h 0)
-
-  pub lowest_of_none : (n : ℕ) → n ≤ length vs → AllWithin (λ (v : ℕ). 0 < v) (take n vs) 0 (length (take n vs)) → none ≡ lowest (valued vs) n
-  lowest_of_none n s g =
-      let e : length (take n vs) ≡ n = omega (arith, length-take n vs) in
-      sym (lowest_up (take n vs) n (subst (AllWithin (λ (v : ℕ). 0 < v) (take n vs) 0) e g) (λ j a. get_or-take n vs j 0 a))

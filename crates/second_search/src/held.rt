@@ -23,7 +23,7 @@ pub fn undo(m: u16, values: &mut [u8; 256], levels: &mut [u16; 256])
     ensures { Whole values.new levels.new
         × (cells_at values.new levels.new ≡ (λ q. undone m (cells_at values.old levels.old q))) }
 {
-    for i in (0..256).rev() {
+    for i in 0..256 {
         if m <= levels[i] {
             values[i] = 0;
             levels[i] = 0;

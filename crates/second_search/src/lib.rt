@@ -6,7 +6,7 @@
 ghost use Rattle.std.specs.Prelude.{◌≡◌, Bool, true, false, map, ◌≤◌, suc, ltb};
 ghost use Rattle.meaning.specs.Answers.{body, reduct};
 ghost use Rattle.interpretation.specs.State.{AllDefined, true_atoms, lowest};
-ghost use Rattle.interpretation.specs.View.{valued, found};
+ghost use Rattle.interpretation.specs.View.{valued};
 ghost use Rattle.layout.specs.Layout.{Laid, RuleLies, rule_at};
 ghost use Rattle.heads.specs.Heads.{AllLie};
 ghost use Rattle.steps.specs.Steps.{pass, passes};
@@ -17,7 +17,6 @@ ghost use Rattle.second_search.specs.Looking.{Like, work_of, cells_at, Whole, as
 
 pub mod held;
 
-use interpretation::Choice;
 use layout::Table;
 use rules::Step;
 
@@ -152,18 +151,6 @@ pub fn lacks_one(candidate: &[u8; 256], values: &[u8; 256], n: usize) -> bool
     false
 }
 
-// The lowest undefined atom of 1 to n.
-pub fn lowest_undefined(values: &[u8; 256], n: usize) -> Choice
-    requires { n ≤ 256 }
-    ensures { found result ≡ lowest (valued values.now) n }
-{
-    let first = values[..n].iter().position(|value| *value == 0);
-    match first {
-        Some(i) => Choice::Atom(i + 1),
-        None => Choice::Nothing,
-    }
-}
-
 // What is to be done after a propagation. "keeping all atoms not counting as smaller": then it goes back as after a conflict.
 pub fn decide(
     candidate: &[u8; 256],
@@ -179,15 +166,14 @@ pub fn decide(
     if conflict {
         return Turn::Back;
     }
-    let c = lowest_undefined(values, n);
-    match c {
-        Choice::Atom(p) => {
+    match interpretation::lowest_undefined(values, n) {
+        Some(p) => {
             if choices < left {
                 return Turn::Choose(p);
             }
             Turn::Limit
         }
-        Choice::Nothing => {
+        None => {
             if lacks_one(candidate, values, n) {
                 return Turn::Smaller;
             }
