@@ -5,6 +5,7 @@ use mathlib.Core.List.Memᴰ
 use mathlib.Core.List.{List, [], ◌∷◌}
 use Prim.Native.Nat.{ℕ, suc}
 use lib.Dec.{eqb}
+use Rattle.std.specs.Prelude.{Option, Some, None}
 use Rattle.meaning.specs.Lists.{Is, ◌∈◌, any}
 use Rattle.meaning.specs.Program.{Element, Literal, Rule, Program, In, AtomsIn}
 use Rattle.meaning.specs.Dependency.{arc, added_arc, any_arc, stay, go, HeadCycle, AggregateCycle}
@@ -18,8 +19,6 @@ use Rattle.reach.specs.Visits.{Part, Settled}
 use Rattle.reach.proofs.Inside.{below}
 use Rattle.reach.proofs.Graph.{arcs_low}
 use Rattle.reach.proofs.Settled.{settled_alone, settled_open}
-use Rattle.depend.specs.declared.Place.{Place}
-use Rattle.depend.specs.declared.Place.TheVariants.{Nowhere, At}
 use Rattle.depend.specs.Circles.{alike, Named}
 use Rattle.depend.specs.Cycles.{crossed, returned, or_later, lowest}
 use Rattle.depend.proofs.Naming.{alike_via}
@@ -36,8 +35,8 @@ same_lowest : (f g : Rule → Bool) (k : ℕ) (P : Program) → ((r : Rule) → 
 unfolding lowest
 same_lowest f g k [] h = refl
 same_lowest f g k (r ∷ P) h =
-    ap (λ (b : Bool). or_later b (At k) (lowest f (suc k) P)) (h r (Memᴰ.head refl))
-    ∙ ap (λ (p : Place). or_later (g r) (At k) p) (same_lowest f g (suc k) P (λ s m. h s (Memᴰ.tail m)))
+    ap (λ (b : Bool). or_later b (Some k) (lowest f (suc k) P)) (h r (Memᴰ.head refl))
+    ∙ ap (λ (p : Option ℕ). or_later (g r) (Some k) p) (same_lowest f g (suc k) P (λ s m. h s (Memᴰ.tail m)))
 
 module _ (n : ℕ) (P : Program) (A : AtomsIn n P) where
   -- ---- by names
@@ -84,13 +83,13 @@ module _ (n : ℕ) (P : Program) (A : AtomsIn n P) where
     inside : (p : ℕ) → In n p → Is (S p)
     inside p i = all p (if_lt_yes 0 p _ _ i.0 ∙ if_lt_no n p _ _ i.1)
 
-    pub settled_8 : Settled (arc P) S → lowest (head_cycle (suc n) P) 1 P ≡ Nowhere
+    pub settled_8 : Settled (arc P) S → lowest (head_cycle (suc n) P) 1 P ≡ None
     settled_8 s = (lowest_none P (head_cycle (suc n) P) (HeadCycle P) (head_cycle_lem (suc n) P (below n P A))).1 free
       where
         free : (r : Rule) → r ∈ P → HeadCycle P r → ⊥
         free r m c = c.differ (settled_alone (arc P) S s c.first c.second (inside c.first ((A r m).heads c.first c.first_in)) (record { there = c.there; back = c.back }))
 
-    pub settled_9 : Settled (any_arc P) S → lowest (aggregate_cycle (suc n) P) 1 P ≡ Nowhere
+    pub settled_9 : Settled (any_arc P) S → lowest (aggregate_cycle (suc n) P) 1 P ≡ None
     unfolding any_arc
     settled_9 s = (lowest_none P (aggregate_cycle (suc n) P) (AggregateCycle P) (aggregate_cycle_lem (suc n) P (below n P A))).1 free
       where

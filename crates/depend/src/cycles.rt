@@ -8,8 +8,8 @@ ghost use Rattle.reach.specs.Arcs.{Elements};
 ghost use Rattle.depend.specs.Circles.{alike};
 ghost use Rattle.depend.specs.Cycles.{full, wide, makes_arcs, adds_arcs, may_cross, may_return, crossing, crossed, returning, returned, lowest};
 
+use crate::circles;
 use crate::circles::Names;
-use crate::{Place, circles};
 use layout::Table;
 use reach::arcs;
 
@@ -202,7 +202,7 @@ pub fn adds(t: &[i32], tb: Table, names: &Names, at: usize) -> bool
 }
 
 // The lowest rule with two head atoms that reach each other.
-pub fn first_head(t: &[i32], tb: Table, names: &Names) -> Place
+pub fn first_head(t: &[i32], tb: Table, names: &Names) -> Option<usize>
     requires { Laid t.now tb }
     ensures { result ≡ lowest (λ u. crossed (alike names.now) u.head) 1 (program_of t.now tb) }
 {
@@ -212,18 +212,18 @@ pub fn first_head(t: &[i32], tb: Table, names: &Names) -> Place
     while 0 < left {
         let head = layout::part(t, at);
         if crossed(names, head) {
-            return Place::At(number);
+            return Some(number);
         }
         let next = layout::past_rule(t, at);
         at = next;
         number += 1;
         left -= 1;
     }
-    Place::Nowhere
+    None
 }
 
 // The lowest rule that adds an arc that lies on a cycle.
-pub fn first_aggregate(t: &[i32], tb: Table, names: &Names) -> Place
+pub fn first_aggregate(t: &[i32], tb: Table, names: &Names) -> Option<usize>
     requires { Laid t.now tb }
     ensures { result ≡ lowest (λ u. returned (alike names.now) u.head u.aggs) 1 (program_of t.now tb) }
 {
@@ -232,12 +232,12 @@ pub fn first_aggregate(t: &[i32], tb: Table, names: &Names) -> Place
     let mut number: usize = 1;
     while 0 < left {
         if adds(t, tb, names, at) {
-            return Place::At(number);
+            return Some(number);
         }
         let next = layout::past_rule(t, at);
         at = next;
         number += 1;
         left -= 1;
     }
-    Place::Nowhere
+    None
 }

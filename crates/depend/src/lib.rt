@@ -19,67 +19,51 @@ use results::Refusal;
 mod circles;
 mod cycles;
 
-// The lowest rule of a kind, from 1, if there is one.
-#[derive(Clone, Copy)]
-pub enum Place {
-    Nowhere,
-    At(usize),
-}
-
-// Refusal 8 or 9, or nothing.
-#[derive(Clone, Copy)]
-pub enum Cycle {
-    Nothing,
-    Refused(Refusal),
-}
-
 // The refusal of an accepted table for its cycles: 8 before 9, each at its lowest rule; where head cycles are taken, 9 alone. `lists` are the table's
 // lists of rules by head.
-pub fn refusal(t: &[i32], tb: Table, cycles: bool, lists: &Lists) -> Cycle
+pub fn refusal(t: &[i32], tb: Table, cycles: bool, lists: &Lists) -> Result<(), Refusal>
     requires { Laid t.now tb × Listed t.now tb lists.now }
     ensures { result ≡ cycle_by cycles tb.atoms (program_of t.now tb) }
 {
-    let head = lowest_eighth(t, tb, cycles, lists);
-    match head {
-        Place::At(rule) => Cycle::Refused(Refusal::HeadCycle(rule)),
-        Place::Nowhere => ninth(t, tb, lists),
+    match lowest_eighth(t, tb, cycles, lists) {
+        Some(rule) => Err(Refusal::HeadCycle(rule)),
+        None => ninth(t, tb, lists),
     }
 }
 
 // The lowest rule that 8 is given for: none where head cycles are taken.
-fn lowest_eighth(t: &[i32], tb: Table, cycles: bool, lists: &Lists) -> Place
+fn lowest_eighth(t: &[i32], tb: Table, cycles: bool, lists: &Lists) -> Option<usize>
     requires { Laid t.now tb × Listed t.now tb lists.now }
     ensures { result ≡ lowest (head_cycle_by cycles (suc tb.atoms) (program_of t.now tb)) 1 (program_of t.now tb) }
 {
     if cycles {
-        return Place::Nowhere;
+        return None;
     }
     lowest_head(t, tb, lists)
 }
 
 // Refusal 9 at its lowest rule, or nothing. It is asked at one place, so that the compiler lets what it takes share the memory of 8.
-fn ninth(t: &[i32], tb: Table, lists: &Lists) -> Cycle
+fn ninth(t: &[i32], tb: Table, lists: &Lists) -> Result<(), Refusal>
     requires { Laid t.now tb × Listed t.now tb lists.now }
     ensures { result ≡ ninth (lowest (aggregate_cycle (suc tb.atoms) (program_of t.now tb)) 1 (program_of t.now tb)) }
 {
-    let aggregate = lowest_aggregate(t, tb, lists);
-    match aggregate {
-        Place::At(rule) => Cycle::Refused(Refusal::AggregateCycle(rule)),
-        Place::Nowhere => Cycle::Nothing,
+    match lowest_aggregate(t, tb, lists) {
+        Some(rule) => Err(Refusal::AggregateCycle(rule)),
+        None => Ok(()),
     }
 }
 
 // The lowest rule with a head cycle.
-fn lowest_head(t: &[i32], tb: Table, lists: &Lists) -> Place
+fn lowest_head(t: &[i32], tb: Table, lists: &Lists) -> Option<usize>
     requires { Laid t.now tb × Listed t.now tb lists.now }
     ensures { result ≡ lowest (head_cycle (suc tb.atoms) (program_of t.now tb)) 1 (program_of t.now tb) }
 {
     if !cycles::may_cross(t, tb) {
-        return Place::Nowhere;
+        return None;
     }
     let settled = settling::settled(t, tb, lists, false);
     if settling::everything(settled, tb) {
-        return Place::Nowhere;
+        return None;
     }
     let mut names = circles::apart();
     circles::find(t, tb, lists, false, settled, &mut names);
@@ -87,16 +71,16 @@ fn lowest_head(t: &[i32], tb: Table, lists: &Lists) -> Place
 }
 
 // The lowest rule that adds an arc of an aggregate cycle.
-fn lowest_aggregate(t: &[i32], tb: Table, lists: &Lists) -> Place
+fn lowest_aggregate(t: &[i32], tb: Table, lists: &Lists) -> Option<usize>
     requires { Laid t.now tb × Listed t.now tb lists.now }
     ensures { result ≡ lowest (aggregate_cycle (suc tb.atoms) (program_of t.now tb)) 1 (program_of t.now tb) }
 {
     if !cycles::may_return(t, tb) {
-        return Place::Nowhere;
+        return None;
     }
     let settled = settling::settled(t, tb, lists, true);
     if settling::everything(settled, tb) {
-        return Place::Nowhere;
+        return None;
     }
     let mut names = circles::apart();
     circles::find(t, tb, lists, true, settled, &mut names);

@@ -1,6 +1,6 @@
 -- The whole table: what was read is its encoding, and what the code makes of it. Assumes nothing.
 use mathlib.Core.Path.{◌≡◌, refl, sym, ap, ◌∙◌, subst}
-use mathlib.Core.Bool.{Bool, true, false}
+use mathlib.Core.Bool.{Bool}
 use mathlib.Core.List.{List, [], ◌∷◌, ◌++◌, append_assoc}
 use Prim.Native.Nat.{ℕ, suc, ◌+◌, ◌≤◌, ◌<◌}
 use native.Mathlib.Omega.{arith}
@@ -8,14 +8,13 @@ use lib.IntN.{ℤ, pos, nat_abs}
 use lib.ListN.{length, drop, length-append}
 use borrow.Author.Tests.{le-leb, lt-leb}
 use Rattle.std.specs.Prelude.{Ok, Err}
-use Rattle.std.specs.Prelude.{Result as Returned}
 use Rattle.results.specs.declared.Refusal.{Refusal}
 use Rattle.results.specs.declared.Refusal.TheVariants.{TooManyWords}
 use Rattle.meaning.specs.Program.{Aggregate}
 use Rattle.table.specs.Roles.{count, Format, done, ◌>>=◌, Result, read, refused, run}
 use Rattle.table.specs.Contents.{NumberedRule, Contents, Each, AggregateInRange, RuleInRange, InRange, encode_aggregate, encode_rule, encode_all, encode}
 use Rattle.table.specs.Grammar.{one, times, aggregate, aggregates, rule, rules, table, contents_of, outcome_by, ended}
-use Rattle.table.specs.Places.{got_of, part_of, no_starts, placed, places_from, finished, table_of, reading_by, reading_of}
+use Rattle.table.specs.Places.{got_of, no_starts, placed, places_from, finished, table_of, reading_by, reading_of}
 use Rattle.table.specs.declared.Places.{Places}
 use Rattle.table.proofs.Run.{run_done, run_length, run_at, both, bind_on, bind_stop}
 use Rattle.table.proofs.Faults.{count_good}

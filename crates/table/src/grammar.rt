@@ -9,7 +9,13 @@ use layout::{Cursor, Table};
 use results::Refusal;
 
 // The index past `n` members from `i` on.
-pub fn members_at(t: &[i32], i: Cursor, n: usize, signed: bool, top: usize) -> Result<Cursor, Refusal>
+pub fn members_at(
+    t: &[i32],
+    i: Cursor,
+    n: usize,
+    signed: bool,
+    top: usize,
+) -> Result<Cursor, Refusal>
     ensures { result ≡ part_of (run (members signed top 0 n) i (drop i t.now)) }
 {
     let mut at = i;
@@ -23,7 +29,13 @@ pub fn members_at(t: &[i32], i: Cursor, n: usize, signed: bool, top: usize) -> R
 }
 
 // The index past a list of at most `most` members whose count stands at `i`.
-pub fn list_at(t: &[i32], i: Cursor, most: usize, signed: bool, top: usize) -> Result<Cursor, Refusal>
+pub fn list_at(
+    t: &[i32],
+    i: Cursor,
+    most: usize,
+    signed: bool,
+    top: usize,
+) -> Result<Cursor, Refusal>
     ensures { result ≡ part_of (run (list most signed top) i (drop i t.now)) }
 {
     let (n, next) = count_at(t, i, most)?;

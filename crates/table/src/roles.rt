@@ -55,7 +55,13 @@ pub fn quantity_at(t: &[i32], i: Cursor, low: i32, high: i32) -> Result<(usize, 
 
 // A member at `i` of a list whose previous number is `previous`: an atom, or where `signed` an aggregate literal. Its range is tested before
 // the ascent.
-pub fn member_at(t: &[i32], i: Cursor, signed: bool, top: usize, previous: usize) -> Result<(usize, Cursor), Refusal>
+pub fn member_at(
+    t: &[i32],
+    i: Cursor,
+    signed: bool,
+    top: usize,
+    previous: usize,
+) -> Result<(usize, Cursor), Refusal>
     ensures { result ≡ got_of (run (one (member signed top previous)) i (drop i t.now)) }
 {
     let Ok((w, next)) = word_at(t, i) else {

@@ -4,9 +4,9 @@ ghost use Rattle.table.specs.Roles.{run};
 ghost use Rattle.table.specs.Grammar.{aggregate, aggregates, times};
 ghost use Rattle.table.specs.Places.{no_starts, places_from};
 
+use crate::Places;
 use crate::grammar::aggregate_at;
 use crate::roles::count_at;
-use crate::Places;
 use layout::{Cursor, Table};
 use results::Refusal;
 

@@ -2,8 +2,8 @@
 use mathlib.Core.Path.{sym, ap, ◌∙◌}
 use mathlib.Core.Bool.{Bool}
 use Prim.Native.Nat.{suc}
+use Rattle.std.specs.Prelude.{ℕ, Option}
 use Rattle.layout.specs.Layout.{program_of}
-use Rattle.depend.specs.declared.Place.{Place}
 use Rattle.depend.specs.Cycles.{lowest, head_cycle_by}
 use Rattle.depend.proofs.Exact.{nowhere}
 use mathlib.Core.List.{List}
@@ -12,7 +12,7 @@ use Rattle.layout.specs.declared.Table.{Table}
 use Rattle.depend.proofs.lowest_eighth.Goals as goal
 
 -- the lowest rule by the mode
-abbrev by : List ℤ → Table → Bool → Place
+abbrev by : List ℤ → Table → Bool → Option ℕ
 by t tb cycles = let P = program_of t tb in lowest (head_cycle_by cycles (suc tb.atoms) P) 1 P
 
 pub returns-then-cycles : goal.returns-then-cycles

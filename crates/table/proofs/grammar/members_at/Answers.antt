@@ -1,5 +1,5 @@
 -- `table::grammar::members_at` meets its contract: the members one by one. Assumes nothing.
-use mathlib.Core.Path.{◌≡◌, sym, ◌∙◌}
+use mathlib.Core.Path.{sym, ◌∙◌}
 use Rattle.table.proofs.Parts.{members_on, members_stop, members_none}
 use Rattle.table.proofs.Returned.{ends}
 use Rattle.table.proofs.grammar.members_at.Goals as goal

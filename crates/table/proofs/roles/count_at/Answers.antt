@@ -1,9 +1,9 @@
 -- `table::roles::count_at` meets its contract: by cases on the word read, then on the tests. Assumes nothing.
 use borrow.Author.Rules.{rules}
 use mathlib.Core.Path.{◌≡◌, sym, ap, ◌∙◌}
-use mathlib.Core.Bool.{not, true, false}
+use mathlib.Core.Bool.{true, false}
 use lib.IntN.{pos, nat_abs}
-use lib.Signed.{lt_z, non_neg}
+use lib.Signed.{lt_z}
 use mir.Syntax.{w32}
 use mir.Val.{to_z, of_z}
 use Prim.Native.Nat.{ℕ, ◌≤◌, ◌<◌}

@@ -50,7 +50,7 @@ returns-then-n-previous c =
     let k : to_z w32 (of_z w32 z) ≡ z = search rules in
     let s : nat_abs z ≡ c.size-n.result = rw k at (sym c.size-n.ensures) in
     let plain : (not (non_neg z) && not a.signed) ≡ false = elim c.else-w-lt0.branch [
-      else-w-lt0-via-then-w-lt0+else-not-signed w ↦ barred_signed a.signed z w.if-not-signed.false
+      | else-w-lt0-via-then-w-lt0+else-not-signed w ↦ barred_signed a.signed z w.if-not-signed.false
       | else-w-lt0-via-else-w-lt0 w ↦ barred_plain a.signed z (rw k at w.if-w-lt0.false)
     ] in
     let positive : 0 < nat_abs z = let h = c.if-n-eq0.false in rw s (omega (arith, h)) in
@@ -65,7 +65,7 @@ returns c =
     let k : to_z w32 (of_z w32 z) ≡ z = search rules in
     let s : nat_abs z ≡ c.size-n.result = rw k at (sym c.size-n.ensures) in
     let plain : (not (non_neg z) && not a.signed) ≡ false = elim c.else-w-lt0.branch [
-      else-w-lt0-via-then-w-lt0+else-not-signed w ↦ barred_signed a.signed z w.if-not-signed.false
+      | else-w-lt0-via-then-w-lt0+else-not-signed w ↦ barred_signed a.signed z w.if-not-signed.false
       | else-w-lt0-via-else-w-lt0 w ↦ barred_plain a.signed z (rw k at w.if-w-lt0.false)
     ] in
     let inside : nat_abs z ≤ a.top = rw s c.if-top-n.false in
