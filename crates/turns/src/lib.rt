@@ -14,7 +14,6 @@ ghost use Rattle.turns.specs.Turns.{turn_of, blamed, ChosenIn, back_of};
 
 use foundation::Candidates;
 use heads::Lists;
-use interpretation::Choice;
 use layout::Table;
 use outcome::Outcome;
 use second_search::Tested;
@@ -39,7 +38,7 @@ pub enum Back {
 pub fn greater(a: u32, b: u32) -> u32
     ensures { result ≡ max a b }
 {
-    if a < b { b } else { a }
+    a.max(b)
 }
 
 // The final test of a total interpretation, with so many choices left: foundedness, which spends none; or, where the call takes head cycles, the second search over the rules of list 0. Constraints add no atom: for foundedness all rules are as good.
@@ -84,15 +83,14 @@ pub fn decide(
         Outcome::Conflict => Turn::Conflict(0),
         Outcome::Settled => {
             let n = tb.atoms;
-            let c = second_search::lowest_undefined(values, n);
-            match c {
-                Choice::Atom(p) => {
+            match interpretation::lowest_undefined(values, n) {
+                Some(p) => {
                     if choices < limit {
                         return Turn::Choose(p);
                     }
                     Turn::Limit(0)
                 }
-                Choice::Nothing => {
+                None => {
                     let left = limit - choices;
                     let tested = test(t, tb, cycles, lists, values, left, candidates);
                     match tested {
