@@ -1,12 +1,10 @@
 -- `aspif_scan::marks::add` meets its contract. Assumes nothing.
-use borrow.Author.Tests.{le-leb, lt-leb}
-use Rattle.aspif_scan.specs.Marks.{add_of}
+use Rattle.aspif_scan.proofs.Laws.{add_some, add_none}
+use mathlib.Core.Path.{sym, ◌∙◌}
 use Rattle.aspif_scan.proofs.marks.add.Goals as goal
 
-pub returns-then-i-ge1280 : goal.returns-then-i-ge1280
-unfolding add_of
-returns-then-i-ge1280 c = rw (le-leb _ _ c.if-i-ge1280.true)
+pub returns-in_default : goal.returns-in_default
+returns-in_default c = add_none _ _ _ (sym c.slot.ensures.value ∙ c.in_default.is)
 
 pub returns : goal.returns
-unfolding add_of
-returns c = rw (lt-leb _ _ c.if-i-ge1280.false, c.sum.ensures)
+returns c = rw c.sum.ensures (add_some _ _ _ _ (sym c.slot.ensures.value ∙ c.in-Some.is))
