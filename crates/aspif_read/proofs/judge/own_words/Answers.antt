@@ -8,6 +8,6 @@ pub returns-then-own-eq0 : goal.returns-then-own-eq0
 unfolding own_words
 returns-then-own-eq0 c = record { value = rw (eq-eqb _ 0 c.if-own-eq0.true); upper_bound = omega arith }
 
-pub returns : goal.returns
+pub returns-else-own-eq0 : goal.returns-else-own-eq0
 unfolding own_words
-returns c = record { value = rw (ne_eqb _ 0 c.if-own-eq0.false); upper_bound = omega (arith, c.requires) }
+returns-else-own-eq0 c = record { value = rw (ne_eqb _ 0 c.if-own-eq0.false); upper_bound = omega (arith, c.requires) }
