@@ -26,11 +26,8 @@ pub fn with_atoms(l: &[i32], set: [u64; 4]) -> [u64; 4]
     ensures { row result ≡ union (listed l.now) (row set) }
 {
     let mut all = set;
-    let mut i = l.len();
-    while 0 < i {
-        i -= 1;
-        let p = words::atom(l, i);
-        let next = levels::with(all, p);
+    for w in l {
+        let next = levels::with(all, words::size(*w));
         all = next;
     }
     all
@@ -42,12 +39,8 @@ pub fn with_pairs(l: &[i32], set: [u64; 4]) -> [u64; 4]
     ensures { row result ≡ union (elements l.now) (row set) }
 {
     let mut all = set;
-    let mut i = l.len() / 2;
-    while 0 < i {
-        i -= 1;
-        let place = 2 * i + 1;
-        let p = words::atom(l, place);
-        let next = levels::with(all, p);
+    for i in 0..l.len() / 2 {
+        let next = levels::with(all, words::atom(l, 2 * i + 1));
         all = next;
     }
     all
@@ -59,11 +52,8 @@ pub fn with_literals(t: &[i32], tb: Table, l: &[i32], set: [u64; 4]) -> [u64; 4]
     ensures { row result ≡ union (literals t.now l.now) (row set) }
 {
     let mut all = set;
-    let mut i = l.len();
-    while 0 < i {
-        i -= 1;
-        let j = words::atom(l, i);
-        let pairs = elements_of(t, tb, j);
+    for w in l {
+        let pairs = elements_of(t, tb, words::size(*w));
         let next = with_pairs(pairs, all);
         all = next;
     }
@@ -94,11 +84,8 @@ pub fn from_atom(t: &[i32], tb: Table, lists: &Lists, added: bool, p: usize) -> 
 {
     let l = heads::list(lists, p);
     let mut all = levels::empty();
-    let mut i = l.len();
-    while 0 < i {
-        i -= 1;
-        let at = l[i] as usize;
-        let next = targets(t, tb, added, at, all);
+    for at in l {
+        let next = targets(t, tb, added, *at as usize, all);
         all = next;
     }
     all

@@ -63,9 +63,7 @@ pub fn walk(
     ensures { Walked (arcs_of added (program_of t.now tb)) list.now 0 many (row found.marks) found.count (row result.marks) result.count }
 {
     let mut all = found;
-    let mut i = many;
-    while 0 < i {
-        i -= 1;
+    for i in (0..many).rev() {
         let q = list[i] as usize + 1;
         all = led(t, tb, lists, added, q, all);
     }

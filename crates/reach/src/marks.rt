@@ -16,16 +16,7 @@ pub struct Marked {
 pub fn same(a: [u64; 4], b: [u64; 4]) -> bool
     ensures { result ≡ true → row a ≡ row b }
 {
-    if a[0] != b[0] {
-        return false;
-    }
-    if a[1] != b[1] {
-        return false;
-    }
-    if a[2] != b[2] {
-        return false;
-    }
-    a[3] == b[3]
+    a == b
 }
 
 // Whether all atoms of a set surely lie in another one.
@@ -41,26 +32,14 @@ pub fn in_both(a: [u64; 4], b: [u64; 4], l: usize) -> bool
     requires { (1 ≤ l) × (l ≤ 256) }
     ensures { result ≡ row a l && row b l }
 {
-    if levels::has(a, l) {
-        return levels::has(b, l);
-    }
-    false
+    levels::has(a, l) && levels::has(b, l)
 }
 
 // Whether two sets surely have no atom in common.
 pub fn apart(a: [u64; 4], b: [u64; 4]) -> bool
     ensures { result ≡ true → Apart (row a) (row b) }
 {
-    if a[0] & b[0] != 0 {
-        return false;
-    }
-    if a[1] & b[1] != 0 {
-        return false;
-    }
-    if a[2] & b[2] != 0 {
-        return false;
-    }
-    a[3] & b[3] == 0
+    a.iter().zip(b.iter()).all(|(x, y)| *x & *y == 0)
 }
 
 // Whether one of the atoms 1 to n is in both of two sets.
@@ -71,12 +50,10 @@ pub fn meets(a: [u64; 4], b: [u64; 4], n: usize) -> bool
     if apart(a, b) {
         return false;
     }
-    let mut l = n;
-    while 0 < l {
+    for l in (1..=n).rev() {
         if in_both(a, b, l) {
             return true;
         }
-        l -= 1;
     }
     false
 }
@@ -142,13 +119,10 @@ pub fn listed_in(list: &[u8; 256], many: usize, set: [u64; 4]) -> bool
     requires { (many ≤ 256) × ((i : ℕ) → i < many → get_or list.now i 0 < 256) }
     ensures { result ≡ true → (i : ℕ) → i < many → Is (row set (suc (get_or list.now i 0))) }
 {
-    let mut i: usize = 0;
-    while i < many {
-        let q = list[i] as usize + 1;
-        if !levels::has(set, q) {
+    for q in &list[..many] {
+        if !levels::has(set, *q as usize + 1) {
             return false;
         }
-        i += 1;
     }
     true
 }

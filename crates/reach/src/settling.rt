@@ -41,16 +41,15 @@ pub fn settle(
 }
 
 // A walk from the last atom to the first.
+// Stays: `down`, `up` and `along` differ in the order alone, and a shared walk over any order would take an iterator, with a contract longer than the loop.
 pub fn down(t: &[i32], tb: Table, lists: &Lists, added: bool, done: [u64; 4]) -> [u64; 4]
     requires { Laid t.now tb × Listed t.now tb lists.now × Closed (arcs_of added (program_of t.now tb)) (row done) }
     ensures { Settling (arcs_of added (program_of t.now tb)) (row done) (row result) }
 {
     let mut all = done;
-    let mut p = tb.atoms;
-    while 0 < p {
+    for p in (1..=tb.atoms).rev() {
         let next = settle(t, tb, lists, added, p, all);
         all = next;
-        p -= 1;
     }
     all
 }
@@ -60,11 +59,8 @@ pub fn up(t: &[i32], tb: Table, lists: &Lists, added: bool, done: [u64; 4]) -> [
     requires { Laid t.now tb × Listed t.now tb lists.now × Closed (arcs_of added (program_of t.now tb)) (row done) }
     ensures { Settling (arcs_of added (program_of t.now tb)) (row done) (row result) }
 {
-    let n = tb.atoms;
     let mut all = done;
-    let mut p: usize = 0;
-    while p < n {
-        p += 1;
+    for p in 1..=tb.atoms {
         let next = settle(t, tb, lists, added, p, all);
         all = next;
     }
@@ -86,11 +82,8 @@ pub fn along(
     ensures { Settling (arcs_of added (program_of t.now tb)) (row done) (row result) }
 {
     let mut all = done;
-    let mut i = many;
-    while 0 < i {
-        i -= 1;
-        let p = list[i] as usize + 1;
-        let next = settle(t, tb, lists, added, p, all);
+    for i in (0..many).rev() {
+        let next = settle(t, tb, lists, added, list[i] as usize + 1, all);
         all = next;
     }
     all
@@ -102,15 +95,13 @@ pub fn settled(t: &[i32], tb: Table, lists: &Lists, added: bool) -> [u64; 4]
     ensures { Settled (arcs_of added (program_of t.now tb)) (row result) }
 {
     let mut all = levels::empty();
-    let mut left = ROUNDS;
-    while 0 < left {
+    for _ in 0..ROUNDS {
         let lower = down(t, tb, lists, added, all);
         let both = up(t, tb, lists, added, lower);
         if marks::same(both, all) {
             return both;
         }
         all = both;
-        left -= 1;
     }
     all
 }

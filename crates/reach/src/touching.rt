@@ -15,11 +15,7 @@ pub fn lies(set: [u64; 4], q: usize, wanted: bool) -> bool
     requires { (1 ≤ q) × (q ≤ 256) }
     ensures { wanted ≡ true → result ≡ true → Is (row set q) }
 {
-    let is = levels::has(set, q);
-    if wanted {
-        return is;
-    }
-    !is
+    levels::has(set, q) == wanted
 }
 
 // Whether one of a list's atoms is.
@@ -27,13 +23,10 @@ pub fn atoms_lie(l: &[i32], set: [u64; 4], wanted: bool) -> bool
     requires { Members 256 l.now }
     ensures { wanted ≡ true → result ≡ true → (q : ℕ) × Is (listed l.now q) × Is (row set q) }
 {
-    let mut i: usize = 0;
-    while i < l.len() {
-        let q = words::atom(l, i);
-        if lies(set, q, wanted) {
+    for w in l {
+        if lies(set, words::size(*w), wanted) {
             return true;
         }
-        i += 1;
     }
     false
 }
@@ -44,15 +37,12 @@ pub fn touches(t: &[i32], tb: Table, lists: &Lists, p: usize, set: [u64; 4], wan
     ensures { wanted ≡ true → result ≡ true → (q : ℕ) × Is (arcs_of false (program_of t.now tb) p q) × Is (row set q) }
 {
     let l = heads::list(lists, p);
-    let mut i: usize = 0;
-    while i < l.len() {
-        let at = l[i] as usize;
-        let positive = layout::past(t, at);
+    for at in l {
+        let positive = layout::past(t, *at as usize);
         let body = layout::part(t, positive);
         if atoms_lie(body, set, wanted) {
             return true;
         }
-        i += 1;
     }
     false
 }

@@ -27,6 +27,7 @@ pub fn visit(
 {
     let n = tb.atoms;
     let mut seen = marks::start(p, list);
+    // Stays: the list grows while it is walked, so its end is not known before, and no range has it.
     let mut i: usize = 0;
     while i < seen.count {
         let a = list[i] as usize + 1;

@@ -14,9 +14,7 @@ pub loop-i-preserved : goal.loop-i-preserved
 loop-i-preserved c =
     let a = c.args in
     let R = arcs_of a.added (program_of a.t.now a.tb) in
-    let next : get_or a.list.now (c.loop-i.i - 1) 0 + 1 ≡ suc (get_or a.list.now (c.loop-i.i - 1) 0) = omega arith in (
-      omega arith,
-      walked_on R a.list.now a.many (row a.found.marks) a.found.count c.loop-i.i (row c.loop-i.all.marks) c.loop-i.all.count (row c.led-all.result.marks) c.led-all.result.count
-          c.loop-i-test.true c.loop-i.invariant.0 c.loop-i.invariant.1
-          (subst (λ (q : ℕ). Led R q (row c.loop-i.all.marks) c.loop-i.all.count (row c.led-all.result.marks) c.led-all.result.count) next c.led-all.ensures),
-    )
+    let next : get_or a.list.now (c.loop-i.i - 1) 0 + 1 ≡ suc (get_or a.list.now (c.loop-i.i - 1) 0) = omega arith in
+    walked_on R a.list.now a.many (row a.found.marks) a.found.count c.loop-i.i (row c.loop-i.all.marks) c.loop-i.all.count (row c.led-all.result.marks) c.led-all.result.count
+    (omega arith) (omega arith) c.loop-i.invariant
+    (subst (λ (q : ℕ). Led R q (row c.loop-i.all.marks) c.loop-i.all.count (row c.led-all.result.marks) c.led-all.result.count) next c.led-all.ensures)

@@ -1,5 +1,4 @@
 -- `reach::settling::along` meets its contract. The invariant: what is settled so far is settled. Assumes nothing.
-use Prim.Native.Nat.{◌≤◌}
 use Rattle.layout.specs.Layout.{program_of}
 use Rattle.levels.specs.View.{row}
 use Rattle.reach.specs.Arcs.{arcs_of}
@@ -7,7 +6,4 @@ use Rattle.reach.specs.Visits.{Settling}
 use Rattle.reach.proofs.settling.along.Given as goal
 
 abbrev pub invariant-loop-i : goal.invariant-loop-i
-invariant-loop-i l = (l.i ≤ l.many) × Settling (arcs_of l.added (program_of l.t l.tb)) (row l.initial.all) (row l.all)
-
-abbrev pub decreases-loop-i : goal.decreases-loop-i
-decreases-loop-i l = l.i
+invariant-loop-i l = Settling (arcs_of l.added (program_of l.t l.tb)) (row l.initial.all) (row l.all)
