@@ -107,7 +107,8 @@ fn put_answer(choices: u64, skips: u64, atoms: usize, plan: &[u8], out: &mut [u8
 // The line of a result, at the front of a buffer of at least 1,100 bytes, into which any line fits: how much was written. The rest of the buffer
 // is kept; to a shorter one nothing is written. `plan` holds the answer's plan, of `atoms` atoms.
 pub fn print(solved: Result<Solved, Refusal>, atoms: usize, plan: &[u8], out: &mut [u8]) -> usize
-    ensures { PrintAs solved atoms plan.now out.old result out.new }
+    ensures line { PrintAs solved atoms plan.now out.old result out.new }
+    ensures room { result ≤ length out.new }
 {
     if out.len() < 1100 {
         return 0;

@@ -1,5 +1,5 @@
 // Reading a text: a first pass judges every number, and only a good text is written to the words' buffer, by a second pass.
-ghost use Rattle.std.specs.Prelude.{◌≡◌, ◌≤◌, drop, length};
+ghost use Rattle.std.specs.Prelude.{◌≡◌, ◌≤◌, drop, length, IfOk};
 ghost use Rattle.std.proofs.lemmas.List.Edits.{sets};
 ghost use Rattle.text.specs.Text.{runs, words_from, ReadAs};
 ghost use Rattle.text.specs.Scan.{count_of, listed};
@@ -47,7 +47,8 @@ fn write_words(bytes: &[u8], from: usize, words: &mut [i32; 32768])
 // The limit and the words of a text. The words come to the front of the buffer and the rest of it is kept; a refusal keeps all of it. A text of
 // 65,536 bytes has at most 32,768 numbers, so there is always room.
 pub fn read(bytes: &[u8], words: &mut [i32; 32768]) -> Result<(u32, usize), Refusal>
-    ensures { ReadAs bytes.now words.old result words.new }
+    ensures reading { ReadAs bytes.now words.old result words.new }
+    ensures room { IfOk result (λ found. found.1 ≤ length words.new) }
 {
     if 65536 < bytes.len() {
         return Err(Refusal::TooManyBytes);

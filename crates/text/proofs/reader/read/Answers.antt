@@ -9,18 +9,19 @@ use Rattle.results.specs.declared.Refusal.TheVariants.{BadNumber}
 use Rattle.text.specs.Text.{runs, limit, words_from, with_limit, with_words, text_of}
 use Rattle.text.proofs.Runs.{Starts, starts, start_runs, span_inside}
 use Rattle.text.proofs.Reading.{limit_good, limit_bad, counted_all, counted_bad, listed_all, text_long, text_short, limit_first, refused_as, refused_on, read_as}
+use Rattle.text.proofs.Callers.{read_front}
 use Rattle.text.proofs.reader.read.Goals as goal
 
-pub returns-then-bytes-gt65536 : goal.returns-then-bytes-gt65536
-returns-then-bytes-gt65536 c = refused_as _ _ _ (text_long _ c.if-bytes-gt65536.true)
+pub returns-then-bytes-gt65536-clause-reading : goal.returns-then-bytes-gt65536-clause-reading
+returns-then-bytes-gt65536-clause-reading c = refused_as _ _ _ (text_long _ c.if-bytes-gt65536.true)
 
 pub slice_bounds-limit_of-end : goal.slice_bounds-limit_of-end
 slice_bounds-limit_of-end c =
     let start : Starts c.args.bytes.now c.run_start-at.result = rw c.run_start-at.ensures (starts _ 0 (omega arith)) in
     rw c.run_end-end.ensures (span_inside _ c.run_start-at.result start.inside)
 
-pub returns-in_err-limit : goal.returns-in_err-limit
-returns-in_err-limit c =
+pub returns-in_err-limit-clause-reading : goal.returns-in_err-limit-clause-reading
+returns-in_err-limit-clause-reading c =
     let start : Starts c.args.bytes.now c.run_start-at.result = rw c.run_start-at.ensures (starts _ 0 (omega arith)) in
     let text-is : let bytes = c.args.bytes.now in
     let at = c.run_start-at.result in
@@ -44,8 +45,8 @@ write_words-requires c =
     let start : Starts c.args.bytes.now c.run_start-at.result = rw c.run_start-at.ensures (starts _ 0 (omega arith)) in
     (rw c.run_end-end.ensures (span_inside _ c.run_start-at.result start.inside), c.if-bytes-gt65536.false)
 
-pub returns-in_err-count : goal.returns-in_err-count
-returns-in_err-count c =
+pub returns-in_err-count-clause-reading : goal.returns-in_err-count-clause-reading
+returns-in_err-count-clause-reading c =
     let start : Starts c.args.bytes.now c.run_start-at.result = rw c.run_start-at.ensures (starts _ 0 (omega arith)) in
     let text-is : let bytes = c.args.bytes.now in
     let at = c.run_start-at.result in
@@ -61,8 +62,8 @@ returns-in_err-count c =
     let b = counted_bad (words_from 1 rs) _ _ c.count_words.ensures c.map_err.ensures.cases _ c.in_err-count.was in
     refused_on _ _ _ _ _ c.from_residual-in_err-count.ensures.1 b.2 (good-limit ∙ ap (with_words _) b.1)
 
-pub returns : goal.returns
-returns c =
+pub returns-clause-reading : goal.returns-clause-reading
+returns-clause-reading c =
     let start : Starts c.args.bytes.now c.run_start-at.result = rw c.run_start-at.ensures (starts _ 0 (omega arith)) in
     let text-is : let bytes = c.args.bytes.now in
     let at = c.run_start-at.result in
@@ -77,3 +78,7 @@ returns c =
     let good-limit : text_of bytes ≡ with_words c.in_ok-limit.limit (words_from 1 rs) = text-is ∙ ap (λ m. with_limit m rs) l in
     let b = counted_all (words_from 1 rs) _ _ c.count_words.ensures c.map_err.ensures.cases c.in_ok-count.count c.in_ok-count.was in
     read_as _ _ _ _ _ b.0 (good-limit ∙ ap (with_words _) b.1) b.2 (c.write_words.ensures ∙ ap (λ zs. sets c.args.words.now 0 zs) (listed_all 1 rs b.0 b.1))
+
+pub returns-clause-room : goal.returns-clause-room
+returns-clause-room c =
+    (read_front c.args.bytes.now c.args.words.now c.write_words.new.words c.in_ok-limit.limit c.in_ok-count.count c.told-words (returns-clause-reading c)).room
