@@ -16,11 +16,7 @@ const LINE: usize = 1100;
 const MOST_BYTES: usize = 65536;
 
 // The line of a result.
-pub fn print_line(
-    rt: &impl Print,
-    solved: Result<Solved, Refusal>,
-    plan: &[u8],
-) -> io::Result<()> {
+pub fn print_line(rt: &impl Print, solved: Result<Solved, Refusal>, plan: &[u8]) -> io::Result<()> {
     let mut out = [0u8; LINE];
     let wrote = print(solved, 256, plan, &mut out);
     rt.write_all(&out[..wrote])
