@@ -2,7 +2,7 @@
 use mathlib.Core.Path.{◌≡◌, refl, ap, ◌∙◌}
 use mathlib.Core.Bool.{Bool, false, ◌||◌}
 use mathlib.Core.List.{List, [], ◌∷◌, map}
-use Prim.Native.Nat.{ℕ, suc, ◌+◌, ◌*◌, ◌≤◌, ◌<◌}
+use Prim.Native.Nat.{ℕ, suc, ◌+◌, ◌-◌, ◌*◌, ◌≤◌, ◌<◌}
 use native.Mathlib.Omega.{arith}
 use lib.IntN.{ℤ, pos, nat_abs}
 use lib.ListN.{length, get_or, drop, drop_of_length-le, length-drop}
@@ -23,6 +23,12 @@ module _ (l : List ℤ) (i : ℕ) where
 
     pub any_on : i < length l → any f (map g (drop i l)) ≡ f (g (get_or l i (pos 0))) || any f (map g (drop (i + 1) l))
     any_on h = ap (λ (m : List ℤ). any f (map g m)) (on h)
+
+-- the same said of i - 1 and i
+pub any_down : (l : List ℤ) (i : ℕ) {A : Type 0} (f : A → Bool) (g : ℤ → A) → 0 < i → i ≤ length l → any f (map g (drop (i - 1) l)) ≡ f (g (get_or l (i - 1) (pos 0))) || any f (map g (drop i l))
+any_down l i f g h k =
+    let e : i - 1 + 1 ≡ i = omega arith in
+    any_on l (i - 1) f g (omega arith) ∙ ap (λ (j : ℕ). f (g (get_or l (i - 1) (pos 0))) || any f (map g (drop j l))) e
 
 -- ---- pairs of value and atom
 
@@ -53,3 +59,10 @@ module _ (l : List ℤ) (i : ℕ) where
 
     pub pair_on : 2 * i + 1 < length l → any f (pairs (drop (2 * i) l)) ≡ f here || any f (pairs (drop (2 * (i + 1)) l))
     pair_on h = ap (any f) (pairs_on h)
+
+pub pair_down : (l : List ℤ) (i : ℕ) (f : Element → Bool) → 0 < i → 2 * i ≤ length l
+    → any f (pairs (drop (2 * (i - 1)) l)) ≡ f record { value = nat_abs (get_or l (2 * (i - 1)) (pos 0)); atom = nat_abs (get_or l (2 * (i - 1) + 1) (pos 0)) } || any f (pairs (drop (2 * i) l))
+pair_down l i f h k =
+    let e : i - 1 + 1 ≡ i = omega arith in
+    pair_on l (i - 1) f (omega arith)
+    ∙ ap (λ (j : ℕ). f record { value = nat_abs (get_or l (2 * (i - 1)) (pos 0)); atom = nat_abs (get_or l (2 * (i - 1) + 1) (pos 0)) } || any f (pairs (drop (2 * j) l))) e
