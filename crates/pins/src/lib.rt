@@ -64,10 +64,7 @@ pub fn pin(session: &mut Session, atom: usize, value: bool) -> Pinned
 fn is_inside(n: usize, p: usize) -> bool
     ensures { result ≡ inside n p }
 {
-    if p < 1 {
-        return false;
-    }
-    p <= n
+    1 <= p && p <= n
 }
 
 fn pin_in(s: &mut [i32], atom: usize, value: bool) -> Pinned

@@ -23,18 +23,10 @@ fn free(values: &[u8; 256], n: usize, p: usize) -> bool
     requires { n ≤ 256 }
     ensures { result ≡ is_free n (valued values.now) p }
 {
-    if p < 1 {
+    if p < 1 || n < p {
         return false;
     }
-    if n < p {
-        return false;
-    }
-    let value = interpretation::value_of(values, p);
-    match value {
-        Value::Undefined => true,
-        Value::True => false,
-        Value::False => false,
-    }
+    matches!(interpretation::value_of(values, p), Value::Undefined)
 }
 
 // A pin is no choice: its atom is set at the present level, which is 0, and no level is opened.
@@ -63,12 +55,10 @@ fn start(s: &[i32], n: usize) -> Interpretation
 {
     let held = memory::number(s, memory::HELD, memory::MOST);
     let mut it = Interpretation::start();
-    let mut i: usize = 0;
-    while i < held {
+    for i in 0..held {
         let p = memory::atom_at(s, i);
         let v = memory::value_at(s, i);
         it = set(it, n, p, v);
-        i += 1;
     }
     it
 }

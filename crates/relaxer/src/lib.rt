@@ -38,21 +38,13 @@ pub struct Offered {
 fn is_answer(e: Ending) -> bool
     ensures { result ≡ is_answer e }
 {
-    match e {
-        Ending::Answer => true,
-        Ending::Nothing => false,
-        Ending::Limit => false,
-    }
+    matches!(e, Ending::Answer)
 }
 
 fn is_nothing(e: Ending) -> bool
     ensures { result ≡ is_nothing e }
 {
-    match e {
-        Ending::Answer => false,
-        Ending::Nothing => true,
-        Ending::Limit => false,
-    }
+    matches!(e, Ending::Nothing)
 }
 
 // A trial: the search over the rules that have a head and the constraints in `kept`.
@@ -71,8 +63,7 @@ fn attempt(
     choosing::choose(t, tb, kept, lists);
     let found = jumping::search(t, tb, cycles, lists, limit, candidates);
     let ending = found.ending;
-    let it = found.it;
-    let values = it.values;
+    let values = found.it.values;
     Offered {
         ending,
         kept,
@@ -96,18 +87,15 @@ fn step(
     ensures { ((rest : Program) → goes_on (trial cycles tb.atoms limit) (program_of t.now tb) tb.atoms result (suc i) rest
         ≡ goes_on (trial cycles tb.atoms limit) (program_of t.now tb) tb.atoms held i (rule_at t.now at ∷ rest)) × Listed t.now tb lists.new }
 {
-    let ending = held.ending;
-    if !is_answer(ending) {
+    if !is_answer(held.ending) {
         return held;
     }
     if choosing::has_head(t, at) {
         return held;
     }
-    let had = held.kept;
-    let kept = kept::with(had, i);
+    let kept = kept::with(held.kept, i);
     let tried = attempt(t, tb, cycles, limit, kept, lists, candidates);
-    let end = tried.ending;
-    if is_nothing(end) {
+    if is_nothing(tried.ending) {
         return held;
     }
     tried
@@ -128,26 +116,11 @@ fn offer_all(
     let none = kept::nothing();
     let mut held = attempt(t, tb, cycles, limit, none, lists, candidates);
     let mut at = tb.first;
-    let mut i: usize = 0;
-    while i < tb.rules {
-        i += 1;
-        held = step(t, tb, cycles, limit, at, i, held, lists, candidates);
-        let next = layout::past_rule(t, at);
-        at = next;
+    for i in 0..tb.rules {
+        held = step(t, tb, cycles, limit, at, i + 1, held, lists, candidates);
+        at = layout::past_rule(t, at);
     }
     held
-}
-
-// A number put at the end of the list, which has n, where the rule is dropped; how many it has then.
-fn put(list: &mut [u32], n: usize, number: u32, dropped: bool) -> usize
-    requires { (n < length list.old) × (n ≤ 1024) }
-    ensures { (result ≡ n + bit_of dropped) × (list.new ≡ cond dropped (set list.old n number) list.old) }
-{
-    if dropped {
-        list[n] = number;
-        return n + 1;
-    }
-    n
 }
 
 // The numbers of the rules that are dropped, ascending, and how many there are; the rest of the list keeps its contents.
@@ -158,14 +131,11 @@ fn write_dropped(t: &[i32], tb: Table, kept: Kept, dropped: &mut [u32]) -> usize
 {
     let mut at = tb.first;
     let mut n: usize = 0;
-    let mut i: usize = 0;
-    while i < tb.rules {
-        i += 1;
-        let takes = choosing::takes_part(t, at, kept, i);
-        let more = put(dropped, n, i as u32, !takes);
-        n = more;
-        let next = layout::past_rule(t, at);
-        at = next;
+    for i in 0..tb.rules {
+        let number = i + 1;
+        let takes = choosing::takes_part(t, at, kept, number);
+        n = choosing::put(dropped, n, number as u32, !takes);
+        at = layout::past_rule(t, at);
     }
     n
 }
@@ -186,13 +156,10 @@ fn give_up(
         × (plan.new ≡ plan_after tb.atoms (relax ask.cycles tb.atoms ask.limit (program_of t.now tb)) plan.old) }
 {
     let held = offer_all(t, tb, ask.cycles, ask.limit, lists, candidates);
-    let ending = held.ending;
-    match ending {
+    match held.ending {
         Ending::Answer => {
-            let values = held.values;
-            plans::write(values, tb.atoms, plan);
-            let kept = held.kept;
-            let number = write_dropped(t, tb, kept, dropped);
+            plans::write(held.values, tb.atoms, plan);
+            let number = write_dropped(t, tb, held.kept, dropped);
             Relaxed::Answer(number)
         }
         Ending::Nothing => Relaxed::Nothing,

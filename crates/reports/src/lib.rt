@@ -26,10 +26,7 @@ pub fn kind(solved: Solved) -> u32
 pub fn narrowed(place: usize) -> u32
     ensures { result ≡ narrow place }
 {
-    if 4294967295 < place {
-        return 4294967295;
-    }
-    place as u32
+    place.min(4294967295) as u32
 }
 
 // The choices, or the number of a refusal.

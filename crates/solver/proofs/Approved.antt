@@ -3,6 +3,7 @@ use mathlib.Core.Path.{◌≡◌, refl, sym, ◌∙◌, ap, subst}
 use mathlib.Core.Logic.{◌⊎◌, inl, inr, ◌↔◌}
 use mathlib.Core.Bool.{Bool, true, false, not}
 use mathlib.Core.List.{List}
+use Rattle.std.specs.Prelude.{Option, Some, None}
 use Prim.Native.Nat.{ℕ, zero, suc, ◌≤◌, ◌<◌}
 use native.Mathlib.Omega.{arith}
 use lib.Dec.{eqb}
@@ -34,8 +35,6 @@ use Rattle.judging.proofs.Refusals.{accepted_unique, refused_not_accepted, refus
 use Rattle.promises.specs.Plans.{plan_atoms}
 use Rattle.solver.specs.Approving.{CheckRefusedBy, before, byte, Bits, BadByte, ApprovingBy}
 use Rattle.solver.specs.Plans.{bad_from, passes_by, checked_by}
-use Rattle.solver.specs.declared.plans.Offer.{Offer}
-use Rattle.solver.specs.declared.plans.Offer.TheVariants as offer
 use Rattle.solver.proofs.Offered.{bad_byte, good_bits}
 
 -- ---- a plan's atoms are atoms of 1 to n
@@ -128,7 +127,7 @@ module _ (cycles : Bool) (t : List ℤ) (plan : List ℕ) where
     answers h = answer_tested c.atoms (program c) A a.no_aggregate (plan_atoms c.atoms plan) (plan_range c.atoms plan) cycles a.no_head h
 
     judges : (r : Checked) (m f : Bool) → model (program c) (plan_atoms c.atoms plan) ≡ m → passes_by cycles (program c) c.atoms (plan_atoms c.atoms plan) ≡ f
-        → r ≡ checked_by offer.Good m f → Judges r
+        → r ≡ checked_by None m f → Judges r
     judges r true true m f e = record {
       yes = (λ i. tested m f, λ h. e);
       no = (λ i. absurd (let z : ◌≡◌ {A = ℕ} 0 1 = cc in omega arith), λ h. absurd (h (tested m f)));
@@ -156,9 +155,9 @@ module _ (cycles : Bool) (t : List ℤ) (plan : List ℕ) where
         → r ≡ checked_by (bad_from plan 0 c.atoms) (model (program c) (plan_atoms c.atoms plan)) (passes_by cycles (program c) c.atoms (plan_atoms c.atoms plan)) → ApprovingBy cycles t plan r
     approving_accepted r e = at (bad_from plan 0 c.atoms) refl
       where
-        by : (o : Offer) → bad_from plan 0 c.atoms ≡ o → r ≡ checked_by o (model (program c) (plan_atoms c.atoms plan)) (passes_by cycles (program c) c.atoms (plan_atoms c.atoms plan))
-        by o i = e ∙ ap (λ (x : Offer). checked_by x (model (program c) (plan_atoms c.atoms plan)) (passes_by cycles (program c) c.atoms (plan_atoms c.atoms plan))) i
+        by : (o : Option ℕ) → bad_from plan 0 c.atoms ≡ o → r ≡ checked_by o (model (program c) (plan_atoms c.atoms plan)) (passes_by cycles (program c) c.atoms (plan_atoms c.atoms plan))
+        by o i = e ∙ ap (λ (x : Option ℕ). checked_by x (model (program c) (plan_atoms c.atoms plan)) (passes_by cycles (program c) c.atoms (plan_atoms c.atoms plan))) i
 
-        at : (o : Offer) → bad_from plan 0 c.atoms ≡ o → ApprovingBy cycles t plan r
-        at (offer.Bad j) i = approving_refused r (refusal.PlanByte j) (byte c a (bad_byte plan c.atoms j i) refl) (by (offer.Bad j) i)
-        at offer.Good i = approves r (good_bits plan c.atoms i) (judges r _ _ refl refl (by offer.Good i))
+        at : (o : Option ℕ) → bad_from plan 0 c.atoms ≡ o → ApprovingBy cycles t plan r
+        at (Some j) i = approving_refused r (refusal.PlanByte j) (byte c a (bad_byte plan c.atoms j i) refl) (by (Some j) i)
+        at None i = approves r (good_bits plan c.atoms i) (judges r _ _ refl refl (by None i))

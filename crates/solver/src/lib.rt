@@ -21,7 +21,6 @@ use heads::Lists;
 use interpretation::Interpretation;
 use judging::Buffer;
 use layout::Table;
-use plans::Offer;
 use results::{Ask, Checked, Refusal, Solved};
 use rounds::Why;
 use table::Fault;
@@ -84,12 +83,7 @@ pub fn solve(words: &[i32], ask: Ask, plan: &mut [u8]) -> Solution
 fn is_answer(solved: Solved) -> bool
     ensures { result ≡ is_answer solved }
 {
-    match solved {
-        Solved::Answer(_) => true,
-        Solved::Nothing(_) => false,
-        Solved::Limit(_) => false,
-        Solved::Refused(_) => false,
-    }
+    matches!(solved, Solved::Answer(_))
 }
 
 // Why each atom is in the answer that the search ended with: its records are filled, and read. Without an answer no atom has a round or a rule. The
@@ -193,17 +187,13 @@ fn check(
     ensures { result ≡ checked_by (bad_from plan.now 0 tb.atoms) (model (program_of words.now tb) (plan_atoms tb.atoms plan.now)) (passes_by cycles (program_of words.now tb) tb.atoms (plan_atoms tb.atoms plan.now)) }
 {
     let n = tb.atoms;
-    let offer = plans::first_bad(plan, n);
-    match offer {
-        Offer::Bad(i) => Checked::Refused(Refusal::PlanByte(i)),
-        Offer::Good => {
-            let values = plans::values_of(plan, n);
-            if foundation::is_model(words, tb, &values) {
-                if passes(words, tb, cycles, lists, &values, candidates) {
-                    return Checked::Yes;
-                }
-            }
-            Checked::No
-        }
+    if let Some(i) = plans::first_bad(plan, n) {
+        return Checked::Refused(Refusal::PlanByte(i));
     }
+    let values = plans::values_of(plan, n);
+    if foundation::is_model(words, tb, &values) && passes(words, tb, cycles, lists, &values, candidates)
+    {
+        return Checked::Yes;
+    }
+    Checked::No
 }
