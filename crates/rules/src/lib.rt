@@ -10,13 +10,13 @@ ghost use Rattle.layout.specs.Layout.{Laid, Members, Plain, Listed, PlainAt, Rul
 ghost use Rattle.valuing.specs.Reasons.{reasons_of};
 ghost use Rattle.steps.specs.Steps.{head_lits, body_lits};
 ghost use Rattle.literals.specs.Scan.{atom_lits, literal_lits};
-ghost use Rattle.rules.specs.Demand.{together, is_nothing, is_conflict, asks, demand_of};
+ghost use Rattle.rules.specs.Demand.{together, is_conflict, asks, demand_of};
 
 use interpretation::Value;
 use layout::Table;
 
 // What a rule asks: nothing, it is in conflict, or an atom is to be set.
-#[derive(Clone, Copy)]
+#[derive(Clone, Copy, Debug, PartialEq, Eq)]
 pub enum Step {
     Nothing,
     Conflict,
@@ -27,36 +27,9 @@ pub enum Step {
 pub fn together(d: Step, e: Step) -> Step
     ensures { result ≡ together d e }
 {
-    match d {
-        Step::Nothing => Step::Nothing,
-        Step::Conflict => e,
-        Step::Set(_, _) => match e {
-            Step::Nothing => Step::Nothing,
-            Step::Conflict => d,
-            Step::Set(_, _) => Step::Nothing,
-        },
-    }
-}
-
-// Nothing is asked, whatever the rest of the rule is.
-pub fn is_nothing(d: Step) -> bool
-    ensures { result ≡ is_nothing d }
-{
-    match d {
-        Step::Nothing => true,
-        Step::Conflict => false,
-        Step::Set(_, _) => false,
-    }
-}
-
-// All literals read so far are true.
-pub fn is_conflict(d: Step) -> bool
-    ensures { result ≡ is_conflict d }
-{
-    match d {
-        Step::Nothing => false,
-        Step::Conflict => true,
-        Step::Set(_, _) => false,
+    match (d, e) {
+        (Step::Conflict, other) | (other, Step::Conflict) => other,
+        _ => Step::Nothing,
     }
 }
 
@@ -67,8 +40,7 @@ pub fn atoms_ask(l: &[i32], sign: bool, values: &[u8; 256]) -> Step
 {
     // The undefined atom passed so far, 0 if there is none. It is a number, so that the loop stays in registers.
     let mut only: usize = 0;
-    let mut i: usize = 0;
-    while i < l.len() {
+    for i in 0..l.len() {
         let b = literals::byte_at(l, i, values);
         if b == 0 {
             if only != 0 {
@@ -81,7 +53,6 @@ pub fn atoms_ask(l: &[i32], sign: bool, values: &[u8; 256]) -> Step
                 return Step::Nothing;
             }
         }
-        i += 1;
     }
     if only == 0 {
         return Step::Conflict;
@@ -94,15 +65,7 @@ pub fn all_true(l: &[i32], sign: bool, values: &[u8; 256]) -> bool
     requires { Members 256 l.now × Plain l.now }
     ensures { result ≡ is_conflict (asks (valued values.now) (atom_lits sign l.now)) }
 {
-    let mut i: usize = 0;
-    while i < l.len() {
-        let b = literals::byte_at(l, i, values);
-        if !literals::affirms(sign, b) {
-            return false;
-        }
-        i += 1;
-    }
-    true
+    (0..l.len()).all(|i| literals::affirms(sign, literals::byte_at(l, i, values)))
 }
 
 // What a list of aggregate literals asks: none of them is ever set, so one that is not true means that nothing is asked.
@@ -110,17 +73,12 @@ pub fn literals_ask(t: &[i32], tb: Table, l: &[i32], values: &[u8; 256]) -> Step
     requires { Laid t.now tb × Members tb.aggregates l.now }
     ensures { result ≡ asks (valued values.now) (literal_lits t.now l.now) }
 {
-    let mut k: usize = 0;
-    while k < l.len() {
-        let v = literals::literal_value(t, tb, l, k, values);
-        match v {
-            Value::True => {}
-            Value::False => return Step::Nothing,
-            Value::Undefined => return Step::Nothing,
-        }
-        k += 1;
+    let holds = |k| literals::literal_value(t, tb, l, k, values) == Value::True;
+    if (0..l.len()).all(holds) {
+        Step::Conflict
+    } else {
+        Step::Nothing
     }
-    Step::Conflict
 }
 
 // What part of a rule asks, with the list of atoms at `at` too.
@@ -149,7 +107,7 @@ pub fn with_rest(so: Step, t: &[i32], tb: Table, at: usize, values: &[u8; 256]) 
     ensures { result ≡ together (together so (asks (valued values.now) (atom_lits false (part_at t.now at)))) (asks (valued values.now) (literal_lits t.now (part_at t.now (past_at t.now at)))) }
 {
     let n = with_list(so, t, at, false, values);
-    if is_nothing(n) {
+    if n == Step::Nothing {
         return Step::Nothing;
     }
     let k = layout::plain_past(t, at);
@@ -164,12 +122,12 @@ pub fn demand(t: &[i32], tb: Table, at: usize, values: &[u8; 256]) -> Step
     ensures { result ≡ demand_of (valued values.now) (rule_at t.now at) }
 {
     let h = with_list(Step::Conflict, t, at, false, values);
-    if is_nothing(h) {
+    if h == Step::Nothing {
         return Step::Nothing;
     }
     let i = layout::plain_past(t, at);
     let p = with_list(h, t, i, true, values);
-    if is_nothing(p) {
+    if p == Step::Nothing {
         return Step::Nothing;
     }
     let j = layout::plain_past(t, i);
