@@ -18,43 +18,52 @@ use Rattle.meaning.specs.Foundedness.{atoms_to}
 use Rattle.interpretation.specs.State.{Cell, undefined, defined, truth_of}
 use Rattle.interpretation.specs.View.{cell_value}
 use Rattle.valuing.specs.Values.{says_true}
-use Rattle.layout.specs.Layout.{atoms}
+use Rattle.std.specs.List.{list_all, range_with_len}
+use Rattle.std.proofs.lemmas.List.{get_or_default}
+use Rattle.layout.specs.Layout.{Members, atoms}
 use Rattle.foundation.specs.Walk.{marked, fits, Stands, with_atom}
 
--- ---- a test on the words of a list from index i on
+-- ---- the words of a list
 
-module _ (f : ℕ → Bool) (l : List ℤ) (i : ℕ) where
-  abbrev here : ℕ
-  here = nat_abs (get_or l i (pos 0))
+-- a test of their atoms
+pub all_words : (f : ℕ → Bool) (l : List ℤ) → list_all (λ (w : ℤ). f (nat_abs w)) l ≡ all f (atoms l)
+all_words f [] = refl
+all_words f (w ∷ l) = ap (λ (b : Bool). f (nat_abs w) && b) (all_words f l)
 
-  at_word : i < length l → all f (atoms (drop i l)) ≡ (f here && all f (atoms (drop (i + 1) l)))
-  at_word h = rw (drop-cons l i (pos 0) h, add-one) refl
+-- each is in the range of the list's atoms
+pub in_range : (l : List ℤ) → Members 256 l → (k : ℕ) (w : ℤ) → k < length l → w ≡ get_or l k w → (1 ≤ nat_abs w) × (nat_abs w ≤ 256)
+in_range l m k w h e = let s : get_or l k w ≡ get_or l k (pos 0) = get_or_default l k w (pos 0) h in rw (e ∙ s) (m k h)
 
-  pub all_fails : i < length l → f here ≡ false → all f (atoms (drop i l)) ≡ false
-  all_fails h e = at_word h ∙ ap (λ (b : Bool). b && all f (atoms (drop (i + 1) l))) e
+-- ---- a test on the atoms 1 .. n
 
-  pub all_on : i < length l → f here ≡ true → all f (atoms (drop i l)) ≡ all f (atoms (drop (i + 1) l))
-  all_on h e = at_word h ∙ ap (λ (b : Bool). b && all f (atoms (drop (i + 1) l))) e
+module _ (f : ℕ → Bool) where
+  turned : (r b s : Bool) → (r && (b && s)) ≡ ((b && r) && s)
+  turned true b s = ap (λ (x : Bool). x && s) (at b)
+    where
+      at : (b : Bool) → b ≡ (b && true)
+      at true = refl
+      at false = refl
+  turned false b s = ap (λ (x : Bool). x && s) (at b)
+    where
+      at : (b : Bool) → false ≡ (b && false)
+      at true = refl
+      at false = refl
 
-  pub all_ended : length l ≤ i → all f (atoms (drop i l)) ≡ true
-  all_ended h = rw (drop_of_length-le l h) refl
+  -- those above m
+  atoms_above : (n m : ℕ) → all f (atoms_to (n + m)) ≡ (list_all f (range_with_len (suc m) n) && all f (atoms_to m))
+  atoms_above zero m = let e : 0 + m ≡ m = omega arith in ap (λ (k : ℕ). all f (atoms_to k)) e
+  atoms_above (suc n) m =
+      (let e : suc n + m ≡ n + suc m = omega arith in ap (λ (k : ℕ). all f (atoms_to k)) e)
+      ∙ atoms_above n (suc m)
+      ∙ turned (list_all f (range_with_len (suc (suc m)) n)) (f (suc m)) (all f (atoms_to m))
+      ∙ (let e : suc (suc m) ≡ suc m + 1 = omega arith in ap (λ (k : ℕ). (f (suc m) && list_all f (range_with_len k n)) && all f (atoms_to m)) e)
 
--- ---- a test on the atoms n .. 1
-
-module _ (f : ℕ → Bool) (p : ℕ) where
-  at_atom : 0 < p → all f (atoms_to p) ≡ (f p && all f (atoms_to (p - 1)))
-  at_atom h =
-      let e : p ≡ suc (p - 1) = omega arith in
-      ap (λ (m : ℕ). all f (atoms_to m)) e ∙ ap (λ (m : ℕ). f m && all f (atoms_to (p - 1))) (sym e)
-
-  pub down_fails : 0 < p → f p ≡ false → all f (atoms_to p) ≡ false
-  down_fails h e = at_atom h ∙ ap (λ (b : Bool). b && all f (atoms_to (p - 1))) e
-
-  pub down_on : 0 < p → f p ≡ true → all f (atoms_to p) ≡ all f (atoms_to (p - 1))
-  down_on h e = at_atom h ∙ ap (λ (b : Bool). b && all f (atoms_to (p - 1))) e
-
-  pub down_ended : p ≤ 0 → all f (atoms_to p) ≡ true
-  down_ended h = let e : p ≡ 0 = omega arith in ap (λ (m : ℕ). all f (atoms_to m)) e
+  pub all_atoms : (n : ℕ) → list_all f (range_with_len 1 n) ≡ all f (atoms_to n)
+  all_atoms n = at (list_all f (range_with_len 1 n)) ∙ sym (atoms_above n 0) ∙ (let e : n + 0 ≡ n = omega arith in ap (λ (k : ℕ). all f (atoms_to k)) e)
+    where
+      at : (b : Bool) → b ≡ (b && true)
+      at true = refl
+      at false = refl
 
 -- ---- values
 

@@ -11,7 +11,7 @@
 --   Fit t l          a list of atoms stands in the table where each candidate of l says
 --   MarksAdded       the marks hold the atoms that get added
 -- Assumes nothing.
-use Rattle.std.specs.Prelude.{ℕ, zero, suc, ◌+◌, ◌-◌, ◌*◌, ◌/◌, ◌%◌, ◌≤◌, ◌≡◌, ◌↔◌, Bool, true, false, not, ◌||◌, List, [], ◌∷◌, map, eqb, ℤ, length, get_or, take}
+use Rattle.std.specs.Prelude.{ℕ, zero, suc, ◌+◌, ◌-◌, ◌*◌, ◌/◌, ◌%◌, ◌≤◌, ◌≡◌, ◌↔◌, Bool, true, false, not, ◌||◌, List, [], ◌∷◌, map, eqb, ℤ, length, get_or, take, Option, None, Some}
 use Rattle.meaning.specs.Cond.{if_eq}
 use Rattle.meaning.specs.Lists.{Is, ◌∈◌, all}
 use Rattle.meaning.specs.Aggregates.{Atoms}
@@ -19,13 +19,9 @@ use Rattle.meaning.specs.Program.{Rule, Program}
 use Rattle.meaning.specs.Foundedness.{Added}
 use Rattle.interpretation.specs.State.{Cell, truth_of}
 use Rattle.valuing.specs.Values.{atom_lit, agg_lit}
-use Rattle.literals.specs.declared.First.{First}
-use Rattle.literals.specs.declared.First.TheVariants as first
 use Rattle.literals.specs.Scan.{first_false}
 use Rattle.rules.specs.Demand.{together, asks, is_conflict}
 use Rattle.layout.specs.Layout.{atoms, part_at, pos_at, past_rule, rule_at, Listed}
-use Rattle.foundation.specs.declared.Adds.{Adds}
-use Rattle.foundation.specs.declared.Adds.TheVariants.{Nothing, Atom}
 
 unfoldable pub marked : List ℕ → Atoms
 marked ms zero = false
@@ -35,27 +31,27 @@ marked ms (suc i) = not (eqb (get_or ms i 0) 0)
 abbrev pub fits : (ℕ → Cell) → ℕ → ℕ → Bool
 fits a p h = not (truth_of (a h)) || eqb h p
 
-abbrev pub add_if : Bool → ℕ → Adds
-add_if true p = Atom p
-add_if false p = Nothing
+abbrev pub add_if : Bool → ℕ → Option ℕ
+add_if true p = Some p
+add_if false p = None
 
-abbrev pub sole_by : (ℕ → Cell) → List ℕ → First → Adds
-sole_by a ps (first.At k) = add_if (all (fits a (get_or ps k 0)) ps) (get_or ps k 0)
-sole_by a ps first.Nothing = Nothing
+abbrev pub sole_by : (ℕ → Cell) → List ℕ → Option ℕ → Option ℕ
+sole_by a ps (Some k) = add_if (all (fits a (get_or ps k 0)) ps) (get_or ps k 0)
+sole_by a ps None = None
 
 -- the head atoms are taken negated: the first false literal is the first true atom
-unfoldable pub sole_of : (ℕ → Cell) → List ℕ → Adds
+unfoldable pub sole_of : (ℕ → Cell) → List ℕ → Option ℕ
 sole_of a ps = sole_by a ps (first_false a (map (atom_lit false) ps))
 
 -- negated atoms and aggregate literals are true
 unfoldable pub rest_true : (ℕ → Cell) → Rule → Bool
 rest_true a r = is_conflict (together (asks a (map (atom_lit false) r.neg)) (asks a (map agg_lit r.aggs)))
 
-abbrev pub could_by : (ℕ → Cell) → Rule → Adds → Adds
-could_by a r Nothing = Nothing
-could_by a r (Atom p) = add_if (rest_true a r) p
+abbrev pub could_by : (ℕ → Cell) → Rule → Option ℕ → Option ℕ
+could_by a r None = None
+could_by a r (Some p) = add_if (rest_true a r) p
 
-unfoldable pub could_of : (ℕ → Cell) → Rule → Adds
+unfoldable pub could_of : (ℕ → Cell) → Rule → Option ℕ
 could_of a r = could_by a r (sole_of a r.head)
 
 -- p is false, or it is marked
@@ -76,9 +72,9 @@ place_of c = c / 256
 abbrev pub positives : List ℤ → ℕ → List ℕ
 positives t c = atoms (part_at t (place_of c))
 
-abbrev pub with_candidate : Adds → ℕ → List ℕ → List ℕ
-with_candidate Nothing j l = l
-with_candidate (Atom p) j l = code_of j p ∷ l
+abbrev pub with_candidate : Option ℕ → ℕ → List ℕ → List ℕ
+with_candidate None j l = l
+with_candidate (Some p) j l = code_of j p ∷ l
 
 unfoldable pub candidates_from : (ℕ → Cell) → List ℤ → ℕ → ℕ → List ℕ
 candidates_from a t i zero = []
