@@ -53,10 +53,7 @@ pub fn takes_part(t: &[i32], tb: Table, at: usize, candidate: &[u8; 256]) -> boo
     let i = layout::past(t, at);
     let positive = layout::part(t, i);
     let asked = rules::atoms_ask(positive, true, candidate);
-    if rules::is_conflict(asked) {
-        return foundation::rest_true(t, tb, at, candidate);
-    }
-    false
+    asked == Step::Conflict && foundation::rest_true(t, tb, at, candidate)
 }
 
 // What steps a to c ask of the rule at `at`: nothing where it is not in the reduct.
