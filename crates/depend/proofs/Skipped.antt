@@ -18,7 +18,7 @@ use Rattle.meaning.specs.Dependency.{arc, Chain, stay, go}
 use Rattle.meaning.specs.Cycles.{via, mutually, head_cycle, aggregate_cycle, returns as returning}
 use Rattle.meaning.proofs.Tools.{clash, cases, or_false, eq_i, any_i, via_chain}
 use Rattle.layout.specs.Layout.{atoms}
-use Rattle.depend.specs.Cycles.{full, more, wide, makes_arcs, adds_arcs, may_cross, may_return, or_later, lowest}
+use Rattle.depend.specs.Cycles.{full, more, wide, makes_arcs, adds_arcs, may_cross, may_return, may_close, cycle_test, or_later, lowest}
 
 -- ---- the tests of a list, by its length
 
@@ -150,3 +150,8 @@ module _ (n : ℕ) (P : Program) where
 
   pub no_aggregate_cycle : may_return P ≡ false → lowest (aggregate_cycle n P) 1 P ≡ None
   no_aggregate_cycle h = nowhere (aggregate_cycle n P) 1 P (λ r m. alone r (not_any adds_arcs P h r m))
+
+  -- of either kind
+  pub no_cycle : (added : Bool) → may_close added P ≡ false → lowest (cycle_test added n P) 1 P ≡ None
+  no_cycle false h = no_head_cycle h
+  no_cycle true h = no_aggregate_cycle h

@@ -15,12 +15,13 @@ use Rattle.meaning.proofs.Cond.{if_lt_yes, if_lt_no}
 use Rattle.meaning.proofs.Rank.{added_i}
 use Rattle.meaning.proofs.Cycles.{head_cycle_lem, aggregate_cycle_lem}
 use Rattle.levels.specs.Levels.{Levels, up_to}
+use Rattle.reach.specs.Arcs.{arcs_of}
 use Rattle.reach.specs.Visits.{Part, Settled}
 use Rattle.reach.proofs.Inside.{below}
 use Rattle.reach.proofs.Graph.{arcs_low}
 use Rattle.reach.proofs.Settled.{settled_alone, settled_open}
 use Rattle.depend.specs.Circles.{alike, Named}
-use Rattle.depend.specs.Cycles.{crossed, returned, or_later, lowest}
+use Rattle.depend.specs.Cycles.{crossed, returned, closes, cycle_test, or_later, lowest}
 use Rattle.depend.proofs.Naming.{alike_via}
 use Rattle.depend.proofs.Exact.{lowest_none}
 
@@ -77,6 +78,11 @@ module _ (n : ℕ) (P : Program) (A : AtomsIn n P) where
             (λ l k. same_any (λ (e : Element). alike x e.atom p) (λ (e : Element). X e.atom p) l.aggregate.elements
             (λ e j. alike_via true n P A x N e.atom p ((A r m).elems l k e j) ((A r m).heads p h) ∙ met (X e.atom p) (X p e.atom) (there r m p h l k e j))))
 
+    -- of either kind
+    pub closes_named : (added : Bool) → Named (arcs_of added P) n n x → lowest (closes added (alike x)) 1 P ≡ lowest (cycle_test added (suc n) P) 1 P
+    closes_named false N = crossed_named N
+    closes_named true N = returned_named N
+
   -- ---- where all atoms are settled
 
   module _ (S : Levels) (all : Part (up_to n) S) where
@@ -97,3 +103,8 @@ module _ (n : ℕ) (P : Program) (A : AtomsIn n P) where
         free r m c =
             settled_open (any_arc P) S s c.from c.elem.atom (inside c.from ((A r m).heads c.from c.from_in))
             (or_r (arc P c.from c.elem.atom) (added_arc P c.from c.elem.atom) (added_i m c.from_in c.lit_in c.elem_in)) c.back
+
+    -- of either kind
+    pub settled_none : (added : Bool) → Settled (arcs_of added P) S → lowest (cycle_test added (suc n) P) 1 P ≡ None
+    settled_none false s = settled_8 s
+    settled_none true s = settled_9 s

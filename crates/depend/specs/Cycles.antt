@@ -3,8 +3,10 @@
 -- `meaning`'s; `proofs/Exact.antt` shows that `cycle_by` says exactly what `HeadCycle` and `AggregateCycle` mean.
 --   may_cross P         some rule has two head atoms, and some rule has head and positive atoms: there may be a head cycle
 --   may_return P        some rule has head atoms and aggregate literals: there may be an aggregate cycle
+--   may_close b P       the one, or where arcs are added the other
 --   crossed X l        two different atoms of the list l that X relates
 --   returned X ps ls   X relates an element of one of the aggregate literals ls to one of the atoms ps
+--   closes b X r       the test of a rule of either kind by X;  cycle_test b n P r, the same by `meaning`'s tests
 --   lowest f k P       the first rule of P that passes f, rules being numbered from k on
 --   head_cycle_by b      the test of a rule for 8 in the mode b: none passes where head cycles are taken
 --   cycle_by b n P      the refusal of a program over atoms 1 .. n in the mode b, or none;  cycle_of, in the mode that refuses head cycles
@@ -46,6 +48,11 @@ may_cross P = any wide P && any makes_arcs P
 abbrev pub may_return : Program → Bool
 may_return P = any adds_arcs P
 
+-- of a kind: head cycles, or where arcs are added aggregate cycles
+abbrev pub may_close : Bool → Program → Bool
+may_close false P = may_cross P
+may_close true P = may_return P
+
 -- ---- the tests of a rule
 
 module _ (X : ℕ → ℕ → Bool) where
@@ -60,6 +67,15 @@ module _ (X : ℕ → ℕ → Bool) where
 
   abbrev pub returned : List ℕ → List Literal → Bool
   returned ps ls = any (λ p. any (λ l. returning p l.aggregate.elements) ls) ps
+
+-- of a kind, by what is related and by `meaning`'s tests
+abbrev pub closes : Bool → (ℕ → ℕ → Bool) → Rule → Bool
+closes false X r = crossed X r.head
+closes true X r = returned X r.head r.aggs
+
+abbrev pub cycle_test : Bool → ℕ → Program → Rule → Bool
+cycle_test false n P r = head_cycle n P r
+cycle_test true n P r = aggregate_cycle n P r
 
 -- ---- the lowest rule, and the refusal
 

@@ -20,10 +20,8 @@ pub fn apart() -> Names
     ensures { Apart 256 result }
 {
     let mut names = [0u8; 256];
-    let mut i: usize = 0;
-    while i < 256 {
+    for i in 0..256 {
         names[i] = i as u8;
-        i += 1;
     }
     names
 }
@@ -56,10 +54,8 @@ pub fn name(these: [u64; 4], n: usize, p: usize, names: &mut Names)
     requires { (n ≤ 256) × (1 ≤ p) × (p ≤ 256) × (length names.old ≡ 256) }
     ensures { Renamed 0 n (row these) p names.old names.new }
 {
-    let mut l = n;
-    while 0 < l {
-        name_one(these, l, p, names);
-        l -= 1;
+    for i in (0..n).rev() {
+        name_one(these, i + 1, p, names);
     }
 }
 
@@ -110,10 +106,8 @@ pub fn find(t: &[i32], tb: Table, lists: &Lists, added: bool, settled: [u64; 4],
 {
     let n = tb.atoms;
     let mut done = settled;
-    let mut p: usize = 0;
-    while p < n {
+    for p in 0..n {
         let next = find_one(t, tb, lists, added, done, p, names);
         done = next;
-        p += 1;
     }
 }

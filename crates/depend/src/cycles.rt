@@ -6,7 +6,7 @@ ghost use Rattle.meaning.specs.Lists.{any};
 ghost use Rattle.layout.specs.Layout.{past_at, pos_at, aggs_at, atoms, Members, pairs, literal_of, rule_at, RuleLies, program_of, Laid};
 ghost use Rattle.reach.specs.Arcs.{Elements};
 ghost use Rattle.depend.specs.Circles.{alike};
-ghost use Rattle.depend.specs.Cycles.{full, wide, makes_arcs, adds_arcs, may_cross, may_return, crossing, crossed, returning, returned, lowest};
+ghost use Rattle.depend.specs.Cycles.{full, wide, makes_arcs, adds_arcs, may_cross, may_return, may_close, crossing, crossed, returning, returned, closes, lowest};
 
 use crate::circles;
 use crate::circles::Names;
@@ -64,17 +64,12 @@ pub fn may_cross(t: &[i32], tb: Table) -> bool
     let mut two = false;
     let mut arcs = false;
     let mut at = tb.first;
-    let mut left = tb.rules;
-    while 0 < left {
-        let wide = is_wide(t, at);
-        let makes = makes_arcs(t, at);
-        two = wide | two;
-        arcs = makes | arcs;
-        let next = layout::past_rule(t, at);
-        at = next;
-        left -= 1;
+    for _ in 0..tb.rules {
+        two |= is_wide(t, at);
+        arcs |= makes_arcs(t, at);
+        at = layout::past_rule(t, at);
     }
-    two & arcs
+    two && arcs
 }
 
 // Whether there can be an aggregate cycle: an arc that is added.
@@ -83,16 +78,24 @@ pub fn may_return(t: &[i32], tb: Table) -> bool
     ensures { result ≡ may_return (program_of t.now tb) }
 {
     let mut at = tb.first;
-    let mut left = tb.rules;
-    while 0 < left {
+    for _ in 0..tb.rules {
         if adds_arcs(t, at) {
             return true;
         }
-        let next = layout::past_rule(t, at);
-        at = next;
-        left -= 1;
+        at = layout::past_rule(t, at);
     }
     false
+}
+
+// Whether there can be a cycle of the kind: a head cycle, or where `added` an aggregate cycle.
+pub fn may_close(t: &[i32], tb: Table, added: bool) -> bool
+    requires { Laid t.now tb }
+    ensures { result ≡ may_close added (program_of t.now tb) }
+{
+    if added {
+        return may_return(t, tb);
+    }
+    may_cross(t, tb)
 }
 
 // ---- which rule has one
@@ -113,15 +116,12 @@ pub fn crosses(names: &Names, head: &[i32], p: usize) -> bool
     requires { Members 256 head.now × (1 ≤ p) × (p ≤ 256) }
     ensures { result ≡ any (λ q. crossing (alike names.now) p q) (atoms head.now) }
 {
-    let mut found = false;
-    let mut i = head.len();
-    while 0 < i {
-        i -= 1;
-        let q = words::atom(head, i);
-        let hit = both_ways(names, p, q);
-        found = hit | found;
+    for q in head {
+        if both_ways(names, p, words::size(*q)) {
+            return true;
+        }
     }
-    found
+    false
 }
 
 // Whether two atoms of a head do.
@@ -129,15 +129,12 @@ pub fn crossed(names: &Names, head: &[i32]) -> bool
     requires { Members 256 head.now }
     ensures { result ≡ crossed (alike names.now) (atoms head.now) }
 {
-    let mut found = false;
-    let mut i = head.len();
-    while 0 < i {
-        i -= 1;
-        let p = words::atom(head, i);
-        let hit = crosses(names, head, p);
-        found = hit | found;
+    for p in head {
+        if crosses(names, head, words::size(*p)) {
+            return true;
+        }
     }
-    found
+    false
 }
 
 // Whether the atom of one of the pairs reaches p.
@@ -145,16 +142,12 @@ pub fn element_reaches(names: &Names, l: &[i32], p: usize) -> bool
     requires { Elements 256 l.now × (1 ≤ p) × (p ≤ 256) }
     ensures { result ≡ returning (alike names.now) p (pairs l.now) }
 {
-    let mut found = false;
-    let mut i = l.len() / 2;
-    while 0 < i {
-        i -= 1;
-        let place = 2 * i + 1;
-        let q = words::atom(l, place);
-        let hit = circles::same(names, q, p);
-        found = hit | found;
+    for i in 0..l.len() / 2 {
+        if circles::same(names, words::atom(l, 2 * i + 1), p) {
+            return true;
+        }
     }
-    found
+    false
 }
 
 // Whether an element of one of the aggregate literals reaches p.
@@ -162,16 +155,12 @@ pub fn literal_reaches(t: &[i32], tb: Table, names: &Names, l: &[i32], p: usize)
     requires { Laid t.now tb × Members tb.aggregates l.now × (1 ≤ p) × (p ≤ 256) }
     ensures { result ≡ any (λ u. returning (alike names.now) p u.aggregate.elements) (map (literal_of t.now) l.now) }
 {
-    let mut found = false;
-    let mut i = l.len();
-    while 0 < i {
-        i -= 1;
-        let j = words::atom(l, i);
-        let pairs = arcs::elements_of(t, tb, j);
-        let hit = element_reaches(names, pairs, p);
-        found = hit | found;
+    for j in l {
+        if element_reaches(names, arcs::elements_of(t, tb, words::size(*j)), p) {
+            return true;
+        }
     }
-    found
+    false
 }
 
 // Whether one of them reaches an atom of a head.
@@ -179,65 +168,39 @@ pub fn head_reached(t: &[i32], tb: Table, names: &Names, head: &[i32], l: &[i32]
     requires { Laid t.now tb × Members 256 head.now × Members tb.aggregates l.now }
     ensures { result ≡ returned (alike names.now) (atoms head.now) (map (literal_of t.now) l.now) }
 {
-    let mut found = false;
-    let mut i = head.len();
-    while 0 < i {
-        i -= 1;
-        let p = words::atom(head, i);
-        let hit = literal_reaches(t, tb, names, l, p);
-        found = hit | found;
+    for p in head {
+        if literal_reaches(t, tb, names, l, words::size(*p)) {
+            return true;
+        }
     }
-    found
+    false
 }
 
-// Whether the rule that begins at `at` adds an arc that lies on a cycle.
-pub fn adds(t: &[i32], tb: Table, names: &Names, at: usize) -> bool
+// Whether the rule that begins at `at` has two head atoms that reach each other, or where `added` adds an arc that lies on a cycle.
+pub fn closes(t: &[i32], tb: Table, added: bool, names: &Names, at: usize) -> bool
     requires { Laid t.now tb × RuleLies tb.atoms tb.aggregates t.now at }
-    ensures { result ≡ returned (alike names.now) (rule_at t.now at).head (rule_at t.now at).aggs }
+    ensures { result ≡ closes added (alike names.now) (rule_at t.now at) }
 {
-    let place = layout::literals_at(t, at);
     let head = layout::part(t, at);
+    if !added {
+        return crossed(names, head);
+    }
+    let place = layout::literals_at(t, at);
     let l = layout::part(t, place);
     head_reached(t, tb, names, head, l)
 }
 
-// The lowest rule with two head atoms that reach each other.
-pub fn first_head(t: &[i32], tb: Table, names: &Names) -> Option<usize>
+// The lowest such rule.
+pub fn first(t: &[i32], tb: Table, added: bool, names: &Names) -> Option<usize>
     requires { Laid t.now tb }
-    ensures { result ≡ lowest (λ u. crossed (alike names.now) u.head) 1 (program_of t.now tb) }
+    ensures { result ≡ lowest (closes added (alike names.now)) 1 (program_of t.now tb) }
 {
     let mut at = tb.first;
-    let mut left = tb.rules;
-    let mut number: usize = 1;
-    while 0 < left {
-        let head = layout::part(t, at);
-        if crossed(names, head) {
-            return Some(number);
+    for k in 0..tb.rules {
+        if closes(t, tb, added, names, at) {
+            return Some(k + 1);
         }
-        let next = layout::past_rule(t, at);
-        at = next;
-        number += 1;
-        left -= 1;
-    }
-    None
-}
-
-// The lowest rule that adds an arc that lies on a cycle.
-pub fn first_aggregate(t: &[i32], tb: Table, names: &Names) -> Option<usize>
-    requires { Laid t.now tb }
-    ensures { result ≡ lowest (λ u. returned (alike names.now) u.head u.aggs) 1 (program_of t.now tb) }
-{
-    let mut at = tb.first;
-    let mut left = tb.rules;
-    let mut number: usize = 1;
-    while 0 < left {
-        if adds(t, tb, names, at) {
-            return Some(number);
-        }
-        let next = layout::past_rule(t, at);
-        at = next;
-        number += 1;
-        left -= 1;
+        at = layout::past_rule(t, at);
     }
     None
 }

@@ -6,10 +6,10 @@
 #![tactic(auto)]
 
 ghost use Rattle.std.specs.Prelude.{◌≡◌, suc};
-ghost use Rattle.meaning.specs.Cycles.{head_cycle, aggregate_cycle};
+ghost use Rattle.meaning.specs.Cycles.{aggregate_cycle};
 ghost use Rattle.layout.specs.Layout.{program_of, Laid};
 ghost use Rattle.heads.specs.Heads.{Listed};
-ghost use Rattle.depend.specs.Cycles.{lowest, ninth, head_cycle_by, cycle_by};
+ghost use Rattle.depend.specs.Cycles.{lowest, ninth, cycle_test, head_cycle_by, cycle_by};
 
 use heads::Lists;
 use layout::Table;
@@ -39,7 +39,7 @@ fn lowest_eighth(t: &[i32], tb: Table, cycles: bool, lists: &Lists) -> Option<us
     if cycles {
         return None;
     }
-    lowest_head(t, tb, lists)
+    lowest_of(t, tb, false, lists)
 }
 
 // Refusal 9 at its lowest rule, or nothing. It is asked at one place, so that the compiler lets what it takes share the memory of 8.
@@ -47,42 +47,25 @@ fn ninth(t: &[i32], tb: Table, lists: &Lists) -> Result<(), Refusal>
     requires { Laid t.now tb × Listed t.now tb lists.now }
     ensures { result ≡ ninth (lowest (aggregate_cycle (suc tb.atoms) (program_of t.now tb)) 1 (program_of t.now tb)) }
 {
-    match lowest_aggregate(t, tb, lists) {
+    match lowest_of(t, tb, true, lists) {
         Some(rule) => Err(Refusal::AggregateCycle(rule)),
         None => Ok(()),
     }
 }
 
-// The lowest rule with a head cycle.
-fn lowest_head(t: &[i32], tb: Table, lists: &Lists) -> Option<usize>
+// The lowest rule with a head cycle, or where `added` the lowest that adds an arc of an aggregate cycle.
+fn lowest_of(t: &[i32], tb: Table, added: bool, lists: &Lists) -> Option<usize>
     requires { Laid t.now tb × Listed t.now tb lists.now }
-    ensures { result ≡ lowest (head_cycle (suc tb.atoms) (program_of t.now tb)) 1 (program_of t.now tb) }
+    ensures { result ≡ lowest (cycle_test added (suc tb.atoms) (program_of t.now tb)) 1 (program_of t.now tb) }
 {
-    if !cycles::may_cross(t, tb) {
+    if !cycles::may_close(t, tb, added) {
         return None;
     }
-    let settled = settling::settled(t, tb, lists, false);
+    let settled = settling::settled(t, tb, lists, added);
     if settling::everything(settled, tb) {
         return None;
     }
     let mut names = circles::apart();
-    circles::find(t, tb, lists, false, settled, &mut names);
-    cycles::first_head(t, tb, &names)
-}
-
-// The lowest rule that adds an arc of an aggregate cycle.
-fn lowest_aggregate(t: &[i32], tb: Table, lists: &Lists) -> Option<usize>
-    requires { Laid t.now tb × Listed t.now tb lists.now }
-    ensures { result ≡ lowest (aggregate_cycle (suc tb.atoms) (program_of t.now tb)) 1 (program_of t.now tb) }
-{
-    if !cycles::may_return(t, tb) {
-        return None;
-    }
-    let settled = settling::settled(t, tb, lists, true);
-    if settling::everything(settled, tb) {
-        return None;
-    }
-    let mut names = circles::apart();
-    circles::find(t, tb, lists, true, settled, &mut names);
-    cycles::first_aggregate(t, tb, &names)
+    circles::find(t, tb, lists, added, settled, &mut names);
+    cycles::first(t, tb, added, &names)
 }

@@ -1,8 +1,8 @@
 -- `depend::lowest_eighth` meets its contract. Assumes nothing.
 use mathlib.Core.Path.{sym, ap, ◌∙◌}
 use mathlib.Core.Bool.{Bool}
-use Prim.Native.Nat.{suc}
-use Rattle.std.specs.Prelude.{ℕ, Option}
+use Prim.Native.Nat.{ℕ, suc}
+use Rattle.std.specs.Prelude.{Option}
 use Rattle.layout.specs.Layout.{program_of}
 use Rattle.depend.specs.Cycles.{lowest, head_cycle_by}
 use Rattle.depend.proofs.Exact.{nowhere}
@@ -19,4 +19,4 @@ pub returns-then-cycles : goal.returns-then-cycles
 returns-then-cycles c = sym (nowhere 1 (program_of c.args.t.now c.args.tb)) ∙ ap (by c.args.t.now c.args.tb) (sym c.if-cycles.true)
 
 pub returns : goal.returns
-returns c = c.lowest_head.ensures ∙ ap (by c.args.t.now c.args.tb) (sym c.if-cycles.false)
+returns c = c.lowest_of.ensures ∙ ap (by c.args.t.now c.args.tb) (sym c.if-cycles.false)

@@ -1,10 +1,10 @@
--- `depend::cycles::crossed` meets its contract. The invariant: found is whether an atom of the head from index i on passes. Assumes nothing.
+-- `depend::cycles::crossed` meets its contract. The invariant: some atom of the head from the index on passes where some atom does. Assumes nothing.
 use mathlib.Core.Path.{◌≡◌}
 use mathlib.Core.Bool.{Bool}
 use mathlib.Core.List.{List}
-use Prim.Native.Nat.{ℕ, ◌≤◌}
+use Prim.Native.Nat.{ℕ}
 use lib.IntN.{ℤ}
-use lib.ListN.{length, drop}
+use lib.ListN.{drop}
 use Rattle.meaning.specs.Lists.{any}
 use Rattle.layout.specs.Layout.{atoms}
 use Rattle.depend.specs.Circles.{alike}
@@ -15,8 +15,5 @@ use Rattle.depend.proofs.cycles.crossed.Given as goal
 abbrev pub passes : List ℕ → List ℤ → ℕ → Bool
 passes names head = λ p. any (λ (q : ℕ). crossing (alike names) p q) (atoms head)
 
-abbrev pub invariant-loop-i : goal.invariant-loop-i
-invariant-loop-i l = (l.i ≤ length l.head) × (l.found ≡ any (passes l.names l.head) (atoms (drop l.i l.head)))
-
-abbrev pub decreases-loop-i : goal.decreases-loop-i
-decreases-loop-i l = l.i
+abbrev pub invariant-loop-p : goal.invariant-loop-p
+invariant-loop-p l = any (passes l.names l.head) (atoms (drop l.p-index l.head)) ≡ any (passes l.names l.head) (atoms l.head)

@@ -1,10 +1,10 @@
--- `depend::cycles::head_reached` meets its contract. The invariant: found is whether an atom of the head from index i on passes. Assumes nothing.
+-- `depend::cycles::head_reached` meets its contract. The invariant: some atom of the head from the index on passes where some atom does. Assumes nothing.
 use mathlib.Core.Path.{◌≡◌}
 use mathlib.Core.Bool.{Bool}
 use mathlib.Core.List.{List, map}
-use Prim.Native.Nat.{ℕ, ◌≤◌}
+use Prim.Native.Nat.{ℕ}
 use lib.IntN.{ℤ}
-use lib.ListN.{length, drop}
+use lib.ListN.{drop}
 use Rattle.meaning.specs.Lists.{any}
 use Rattle.meaning.specs.Program.{Literal}
 use Rattle.layout.specs.Layout.{atoms, literal_of}
@@ -13,11 +13,8 @@ use Rattle.depend.specs.Cycles.{returning}
 use Rattle.depend.proofs.cycles.head_reached.Given as goal
 
 -- the test of a head atom
-abbrev pub passes : List ℤ → List ℕ → List ℤ → ℕ → Bool
-passes t names l = λ p. any (λ (u : Literal). returning (alike names) p u.aggregate.elements) (map (literal_of t) l)
+abbrev pub passes : List ℕ → List ℤ → List ℤ → ℕ → Bool
+passes names t l = λ p. any (λ (u : Literal). returning (alike names) p u.aggregate.elements) (map (literal_of t) l)
 
-abbrev pub invariant-loop-i : goal.invariant-loop-i
-invariant-loop-i l = (l.i ≤ length l.head) × (l.found ≡ any (passes l.t l.names l.l) (atoms (drop l.i l.head)))
-
-abbrev pub decreases-loop-i : goal.decreases-loop-i
-decreases-loop-i l = l.i
+abbrev pub invariant-loop-p : goal.invariant-loop-p
+invariant-loop-p l = any (passes l.names l.t l.l) (atoms (drop l.p-index l.head)) ≡ any (passes l.names l.t l.l) (atoms l.head)

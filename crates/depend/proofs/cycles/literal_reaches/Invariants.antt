@@ -1,9 +1,9 @@
--- `depend::cycles::literal_reaches` meets its contract. The invariant: found is whether an aggregate literal from index i on passes. Assumes nothing.
+-- `depend::cycles::literal_reaches` meets its contract. The invariant: some aggregate literal from the index on passes where some does. Assumes nothing.
 use mathlib.Core.Path.{◌≡◌}
 use mathlib.Core.Bool.{Bool}
 use mathlib.Core.List.{List, map}
-use Prim.Native.Nat.{ℕ, ◌≤◌}
-use lib.ListN.{length, drop}
+use Prim.Native.Nat.{ℕ}
+use lib.ListN.{drop}
 use Rattle.meaning.specs.Lists.{any}
 use Rattle.meaning.specs.Program.{Literal}
 use Rattle.layout.specs.Layout.{literal_of}
@@ -15,8 +15,5 @@ use Rattle.depend.proofs.cycles.literal_reaches.Given as goal
 abbrev pub passes : List ℕ → ℕ → Literal → Bool
 passes names p = λ u. returning (alike names) p u.aggregate.elements
 
-abbrev pub invariant-loop-i : goal.invariant-loop-i
-invariant-loop-i l = (l.i ≤ length l.l) × (l.found ≡ any (passes l.names l.p) (map (literal_of l.t) (drop l.i l.l)))
-
-abbrev pub decreases-loop-i : goal.decreases-loop-i
-decreases-loop-i l = l.i
+abbrev pub invariant-loop-j : goal.invariant-loop-j
+invariant-loop-j l = any (passes l.names l.p) (map (literal_of l.t) (drop l.j-index l.l)) ≡ any (passes l.names l.p) (map (literal_of l.t) l.l)
