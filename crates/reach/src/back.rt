@@ -48,39 +48,22 @@ pub fn led(t: &[i32], tb: Table, lists: &Lists, added: bool, q: usize, found: Ma
     more(found, q)
 }
 
-// One walk over the first atoms of a list.
-pub fn walk(
-    t: &[i32],
-    tb: Table,
-    lists: &Lists,
-    added: bool,
-    list: &[u8; 256],
-    many: usize,
-    found: Marked,
-) -> Marked
-    requires { Laid t.now tb × Listed t.now tb lists.now × (many ≤ 256) × ((i : ℕ) → i < many → get_or list.now i 0 < tb.atoms)
+// One walk over the atoms of a list.
+pub fn walk(t: &[i32], tb: Table, lists: &Lists, added: bool, list: &[u8], found: Marked) -> Marked
+    requires { Laid t.now tb × Listed t.now tb lists.now × (length list.now ≤ 256) × ((i : ℕ) → i < length list.now → get_or list.now i 0 < tb.atoms)
         × (found.count ≤ size (row found.marks) 256) }
-    ensures { Walked (arcs_of added (program_of t.now tb)) list.now 0 many (row found.marks) found.count (row result.marks) result.count }
+    ensures { Walked (arcs_of added (program_of t.now tb)) list.now 0 (length list.now) (row found.marks) found.count (row result.marks) result.count }
 {
     let mut all = found;
-    for i in (0..many).rev() {
-        let q = list[i] as usize + 1;
-        all = led(t, tb, lists, added, q, all);
+    for q in list.iter().rev() {
+        all = led(t, tb, lists, added, *q as usize + 1, all);
     }
     all
 }
 
 // The atoms on the list of a visit from p that reach p.
-pub fn back(
-    t: &[i32],
-    tb: Table,
-    lists: &Lists,
-    added: bool,
-    list: &[u8; 256],
-    many: usize,
-    p: usize,
-) -> [u64; 4]
-    requires { Laid t.now tb × Listed t.now tb lists.now × (1 ≤ p) × (p ≤ tb.atoms) × Reached (arcs_of added (program_of t.now tb)) p list.now many }
+pub fn back(t: &[i32], tb: Table, lists: &Lists, added: bool, list: &[u8], p: usize) -> [u64; 4]
+    requires { Laid t.now tb × Listed t.now tb lists.now × (1 ≤ p) × (p ≤ tb.atoms) × Reached (arcs_of added (program_of t.now tb)) p list.now (length list.now) }
     ensures { (q : ℕ) → Is (row result q) ↔ Circle (arcs_of added (program_of t.now tb)) p q }
 {
     let alone = levels::single(p);
@@ -89,7 +72,7 @@ pub fn back(
         count: 1,
     };
     loop {
-        let next = walk(t, tb, lists, added, list, many, found);
+        let next = walk(t, tb, lists, added, list, found);
         if next.count == found.count {
             return found.marks;
         }
@@ -112,7 +95,7 @@ pub fn circle(
 {
     let seen = visits::visit(t, tb, lists, added, p, list);
     let many = seen.count;
-    let round = back(t, tb, lists, added, list, many, p);
+    let round = back(t, tb, lists, added, &list[..many], p);
     Marked {
         marks: round,
         count: many,

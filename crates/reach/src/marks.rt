@@ -12,19 +12,11 @@ pub struct Marked {
     pub count: usize,
 }
 
-// Whether all words of two rows are the same.
-pub fn same(a: [u64; 4], b: [u64; 4]) -> bool
-    ensures { result ≡ true → row a ≡ row b }
-{
-    a == b
-}
-
 // Whether all atoms of a set surely lie in another one.
 pub fn inside(a: [u64; 4], b: [u64; 4]) -> bool
     ensures { result ≡ true → Part (row a) (row b) }
 {
-    let all = levels::union(a, b);
-    same(all, b)
+    levels::union(a, b) == b
 }
 
 // Whether an atom is in both of two sets.

@@ -98,7 +98,7 @@ pub fn settled(t: &[i32], tb: Table, lists: &Lists, added: bool) -> [u64; 4]
     for _ in 0..ROUNDS {
         let lower = down(t, tb, lists, added, all);
         let both = up(t, tb, lists, added, lower);
-        if marks::same(both, all) {
+        if both == all {
             return both;
         }
         all = both;
