@@ -16,13 +16,12 @@ ghost use Rattle.literals.specs.Scan.{literal_lits, first_false};
 ghost use Rattle.support.specs.Asking.{witness_of, supports_of, refuted_by, body_witness, witness_at, Candidates, skipped, some_rule, forced_of, sole_by, true_by, ask_of, blamed_by, blame_of};
 
 use heads::Lists;
-use interpretation::{Choice, Value};
+use interpretation::Value;
 use layout::Table;
-use literals::First;
 
 // What steps d and e ask at an atom: nothing; it is true and no rule supports it; it is undefined and no rule supports it, so it becomes false; or it is
 // true and the rule at that index of the table alone supports it, and has undefined atoms.
-#[derive(Clone, Copy)]
+#[derive(Clone, Copy, Debug, PartialEq, Eq)]
 pub enum Ask {
     Nothing,
     Conflict,
@@ -30,70 +29,59 @@ pub enum Ask {
     Sole(usize),
 }
 
-// What step e sets next.
-#[derive(Clone, Copy)]
-pub enum Next {
-    Set(usize, bool),
-    Nothing,
-}
-
-// Why a rule fails to support an atom: an atom of its head or body, or an aggregate literal by its index in the list. Nobody: it does support it.
-#[derive(Clone, Copy)]
+// Why a rule fails to support an atom: an atom of its head or body, or an aggregate literal by its index in the list.
+#[derive(Clone, Copy, Debug, PartialEq, Eq)]
 pub enum Witness {
-    Nobody,
     Atom(usize),
     Literal(usize),
 }
 
-// The atom that step e sets next at the rule at `at`: "that rule's other undefined head atoms become false, then its positive body atoms still undefined
+// The atom that step e sets next at the rule at `at`, and its value: "that rule's other undefined head atoms become false, then its positive body atoms still undefined
 // true, then its negated atoms still undefined false".
-pub fn forced(t: &[i32], tb: Table, at: usize, values: &[u8; 256]) -> Next
+pub fn forced(t: &[i32], tb: Table, at: usize, values: &[u8; 256]) -> Option<(usize, bool)>
     requires { Laid t.now tb × RuleLies tb.atoms tb.aggregates t.now at }
     ensures { result ≡ forced_of (valued values.now) (rule_at t.now at) }
 {
     let head = layout::plain_part(t, at);
-    if let Choice::Atom(q) = atoms::first_with(head, Value::Undefined, values) {
-        return Next::Set(q, false);
+    if let Some(q) = atoms::first_with(head, Value::Undefined, values) {
+        return Some((q, false));
     }
     let second = layout::plain_past(t, at);
     let plain = layout::plain_part(t, second);
-    if let Choice::Atom(q) = atoms::first_with(plain, Value::Undefined, values) {
-        return Next::Set(q, true);
+    if let Some(q) = atoms::first_with(plain, Value::Undefined, values) {
+        return Some((q, true));
     }
     let third = layout::plain_past(t, second);
     let negated = layout::plain_part(t, third);
-    if let Choice::Atom(q) = atoms::first_with(negated, Value::Undefined, values) {
-        return Next::Set(q, false);
+    if let Some(q) = atoms::first_with(negated, Value::Undefined, values) {
+        return Some((q, false));
     }
-    Next::Nothing
+    None
 }
 
-// The first false aggregate literal of a list, as a witness.
-pub fn false_literal(t: &[i32], tb: Table, l: &[i32], values: &[u8; 256]) -> Witness
+// The first false aggregate literal of a list, as a witness, if there is one.
+pub fn false_literal(t: &[i32], tb: Table, l: &[i32], values: &[u8; 256]) -> Option<Witness>
     requires { Laid t.now tb × Members tb.aggregates l.now }
     ensures { result ≡ refuted_by (first_false (valued values.now) (literal_lits t.now l.now)) }
 {
-    let first = literals::false_literal(t, tb, l, values);
-    match first {
-        First::At(k) => Witness::Literal(k),
-        First::Nothing => Witness::Nobody,
-    }
+    let k = literals::false_literal(t, tb, l, values)?;
+    Some(Witness::Literal(k))
 }
 
-// The first false body literal of the rule at `at`, in table order: positive, negated, aggregate literals.
-pub fn body_witness(t: &[i32], tb: Table, at: usize, values: &[u8; 256]) -> Witness
+// The first false body literal of the rule at `at`, if there is one, in table order: positive, negated, aggregate literals.
+pub fn body_witness(t: &[i32], tb: Table, at: usize, values: &[u8; 256]) -> Option<Witness>
     requires { Laid t.now tb × RuleLies tb.atoms tb.aggregates t.now at }
     ensures { result ≡ body_witness (valued values.now) t.now at }
 {
     let second = layout::plain_past(t, at);
     let plain = layout::plain_part(t, second);
-    if let Choice::Atom(q) = atoms::first_with(plain, Value::False, values) {
-        return Witness::Atom(q);
+    if let Some(q) = atoms::first_with(plain, Value::False, values) {
+        return Some(Witness::Atom(q));
     }
     let third = layout::plain_past(t, second);
     let negated = layout::plain_part(t, third);
-    if let Choice::Atom(q) = atoms::first_with(negated, Value::True, values) {
-        return Witness::Atom(q);
+    if let Some(q) = atoms::first_with(negated, Value::True, values) {
+        return Some(Witness::Atom(q));
     }
     let fourth = layout::plain_past(t, third);
     let aggregates = layout::part(t, fourth);
@@ -101,13 +89,13 @@ pub fn body_witness(t: &[i32], tb: Table, at: usize, values: &[u8; 256]) -> Witn
 }
 
 // The witness of the rule at `at`, if it fails to support p: "its first other true head atom, or else its first false body literal".
-pub fn witness_of(t: &[i32], tb: Table, at: usize, p: usize, values: &[u8; 256]) -> Witness
+pub fn witness_of(t: &[i32], tb: Table, at: usize, p: usize, values: &[u8; 256]) -> Option<Witness>
     requires { Laid t.now tb × RuleLies tb.atoms tb.aggregates t.now at }
     ensures { result ≡ witness_at (valued values.now) t.now p at }
 {
     let head = layout::plain_part(t, at);
-    if let Choice::Atom(q) = atoms::other_true(head, p, values) {
-        return Witness::Atom(q);
+    if let Some(q) = atoms::other_true(head, p, values) {
+        return Some(Witness::Atom(q));
     }
     body_witness(t, tb, at, values)
 }
@@ -117,12 +105,7 @@ pub fn supports(t: &[i32], tb: Table, at: usize, p: usize, values: &[u8; 256]) -
     requires { Laid t.now tb × RuleLies tb.atoms tb.aggregates t.now at × (has p (rule_at t.now at).head ≡ true) }
     ensures { result ≡ supports_of (valued values.now) p (rule_at t.now at) }
 {
-    let w = witness_of(t, tb, at, p, values);
-    match w {
-        Witness::Nobody => true,
-        Witness::Atom(_) => false,
-        Witness::Literal(_) => false,
-    }
+    witness_of(t, tb, at, p, values).is_none()
 }
 
 // How many of the rules at `l` come before the first that supports p. They all have p in the head.
@@ -130,15 +113,10 @@ pub fn first_support(t: &[i32], tb: Table, l: &[u16], p: usize, values: &[u8; 25
     requires { Laid t.now tb × Candidates t.now tb p l.now }
     ensures { result ≡ skipped (supports_of (valued values.now) p) t.now l.now }
 {
-    let mut i: usize = 0;
-    while i < l.len() {
-        let at = l[i] as usize;
-        if supports(t, tb, at, p, values) {
-            return i;
-        }
-        i += 1;
-    }
-    i
+    let first = l
+        .iter()
+        .position(|at| supports(t, tb, usize::from(*at), p, values));
+    first.unwrap_or(l.len())
 }
 
 // Whether one of them does.
@@ -146,8 +124,7 @@ pub fn supported(t: &[i32], tb: Table, l: &[u16], p: usize, values: &[u8; 256]) 
     requires { Laid t.now tb × Candidates t.now tb p l.now }
     ensures { result ≡ some_rule (supports_of (valued values.now) p) t.now l.now }
 {
-    let k = first_support(t, tb, l, p, values);
-    k < l.len()
+    first_support(t, tb, l, p, values) < l.len()
 }
 
 // What step e asks where the rule at `at` supports p, and no other but perhaps one of those at `others`.
@@ -155,16 +132,10 @@ pub fn sole(t: &[i32], tb: Table, at: usize, others: &[u16], p: usize, values: &
     requires { Laid t.now tb × RuleLies tb.atoms tb.aggregates t.now at × Candidates t.now tb p others.now }
     ensures { result ≡ sole_by at (some_rule (supports_of (valued values.now) p) t.now others.now) (forced_of (valued values.now) (rule_at t.now at)) }
 {
-    let f = forced(t, tb, at, values);
-    match f {
-        Next::Nothing => Ask::Nothing,
-        Next::Set(_, _) => {
-            if supported(t, tb, others, p, values) {
-                return Ask::Nothing;
-            }
-            Ask::Sole(at)
-        }
+    if forced(t, tb, at, values).is_none() || supported(t, tb, others, p, values) {
+        return Ask::Nothing;
     }
+    Ask::Sole(at)
 }
 
 // What steps d and e ask at p, which is true, the rules at `l` being those with p in the head.
@@ -187,8 +158,7 @@ pub fn asked(t: &[i32], tb: Table, lists: &Lists, p: usize, values: &[u8; 256]) 
     requires { Laid t.now tb × Listed t.now tb lists.now × (1 ≤ p) × (p ≤ tb.atoms) }
     ensures { result ≡ ask_of t.now tb (valued values.now) p }
 {
-    let v = interpretation::value_of(values, p);
-    match v {
+    match interpretation::value_of(values, p) {
         Value::False => Ask::Nothing,
         Value::Undefined => {
             let all = &lists[..];
@@ -219,11 +189,10 @@ pub fn blamed(
     requires { Laid t.now tb × RuleLies tb.atoms tb.aggregates t.now at × (has p (rule_at t.now at).head ≡ true) }
     ensures { row result ≡ blamed_by (witness_of (valued values.now) p) (reason_of (valued values.now) (rows reasons.now)) p (rule_at t.now at) (row more) }
 {
-    let w = witness_of(t, tb, at, p, values);
-    match w {
-        Witness::Nobody => more,
-        Witness::Atom(q) => literals::atom_reason(q, values, reasons, more),
-        Witness::Literal(k) => {
+    match witness_of(t, tb, at, p, values) {
+        None => more,
+        Some(Witness::Atom(q)) => literals::atom_reason(q, values, reasons, more),
+        Some(Witness::Literal(k)) => {
             let place = layout::literals_at(t, at);
             let l = layout::part(t, place);
             literals::literal_reason(t, tb, l, k, values, reasons, more)
@@ -246,12 +215,9 @@ pub fn blame(
     let all = &lists[..];
     let l = heads::list(all, p);
     let mut acc = levels::empty();
-    let mut k: usize = 0;
-    while k < l.len() {
-        let at = l[k] as usize;
-        let more = blamed(t, tb, at, p, values, reasons, acc);
+    for at in l {
+        let more = blamed(t, tb, usize::from(*at), p, values, reasons, acc);
         acc = more;
-        k += 1;
     }
     acc
 }

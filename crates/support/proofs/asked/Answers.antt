@@ -26,21 +26,21 @@ returns-then-supported c =
     let listed : let a = c.args in c.list-l.result.now ≡ with_head a.t.now a.p (places_of a.t.now a.tb) = c.list-l.ensures ∙ (c.requires.1.each c.args.p c.requires.2 c.requires.3).same in
     let open_is : (b : Bool) → c.supported.result ≡ b → let a = c.args in ask_of a.t.now a.tb (valued a.values.now) a.p ≡ open_by b = λ b e.
     let a = c.args in
-    ask_by_lem a.t.now a.tb (valued a.values.now) a.p Undefined (sym c.value_of-v.ensures ∙ c.in-Undefined.is)
+    ask_by_lem a.t.now a.tb (valued a.values.now) a.p Undefined (sym c.value_of.ensures ∙ c.in-Undefined.is)
     ∙ ap open_by (ap (some_rule (supports_of (valued a.values.now) a.p) a.t.now) (sym (listed)) ∙ sym c.supported.ensures ∙ e) in
     sym (open_is true c.if-supported.true)
 
 pub returns-in-False : goal.returns-in-False
 returns-in-False c =
     let a = c.args in
-    sym (ask_by_lem a.t.now a.tb (valued a.values.now) a.p False (sym c.value_of-v.ensures ∙ c.in-False.is))
+    sym (ask_by_lem a.t.now a.tb (valued a.values.now) a.p False (sym c.value_of.ensures ∙ c.in-False.is))
 
 pub returns-else-supported : goal.returns-else-supported
 returns-else-supported c =
     let listed : let a = c.args in c.list-l.result.now ≡ with_head a.t.now a.p (places_of a.t.now a.tb) = c.list-l.ensures ∙ (c.requires.1.each c.args.p c.requires.2 c.requires.3).same in
     let open_is : (b : Bool) → c.supported.result ≡ b → let a = c.args in ask_of a.t.now a.tb (valued a.values.now) a.p ≡ open_by b = λ b e.
     let a = c.args in
-    ask_by_lem a.t.now a.tb (valued a.values.now) a.p Undefined (sym c.value_of-v.ensures ∙ c.in-Undefined.is)
+    ask_by_lem a.t.now a.tb (valued a.values.now) a.p Undefined (sym c.value_of.ensures ∙ c.in-Undefined.is)
     ∙ ap open_by (ap (some_rule (supports_of (valued a.values.now) a.p) a.t.now) (sym (listed)) ∙ sym c.supported.ensures ∙ e) in
     sym (open_is false c.if-supported.false)
 
@@ -50,4 +50,4 @@ returns-in-True c =
     let a = c.args in
     c.asked_true.ensures
     ∙ ap (true_by (supports_of (valued a.values.now) a.p) (forced_of (valued a.values.now)) a.t.now) (listed-2)
-    ∙ sym (ask_by_lem a.t.now a.tb (valued a.values.now) a.p True (sym c.value_of-v.ensures ∙ c.in-True.is))
+    ∙ sym (ask_by_lem a.t.now a.tb (valued a.values.now) a.p True (sym c.value_of.ensures ∙ c.in-True.is))

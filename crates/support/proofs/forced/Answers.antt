@@ -10,18 +10,18 @@ use Rattle.support.proofs.Lists.{forced_head, forced_pos, forced_neg}
 use Rattle.support.proofs.forced.Goals as goal
 
 -- src/lib.rt:141:9
-pub returns-in-Atom : goal.returns-in-Atom
-returns-in-Atom c =
+pub returns-in-Some : goal.returns-in-Some
+returns-in-Some c =
     let first : let a = c.args in
     c.first_with.result ≡ first_with (values_of (valued a.values.now)) Undefined (atoms (part_at a.t.now a.at)) =
     let a = c.args in
     c.first_with.ensures ∙ ap (λ (l : List ℤ). first_with (values_of (valued a.values.now)) Undefined (atoms l)) c.plain_part-head.ensures in
     let a = c.args in
-    sym (forced_head (valued a.values.now) a.t.now a.at c.in-Atom.q (sym (first) ∙ c.in-Atom.is))
+    sym (forced_head (valued a.values.now) a.t.now a.at c.in-Some.q (sym (first) ∙ c.in-Some.is))
 
 -- src/lib.rt:146:9
-pub returns-in-Atom-first_with : goal.returns-in-Atom-first_with
-returns-in-Atom-first_with c =
+pub returns-in-Some-first_with : goal.returns-in-Some-first_with
+returns-in-Some-first_with c =
     let first : let a = c.args in
     c.first_with.result ≡ first_with (values_of (valued a.values.now)) Undefined (atoms (part_at a.t.now a.at)) =
     let a = c.args in
@@ -32,11 +32,11 @@ returns-in-Atom-first_with c =
     c.first_with-2.ensures
     ∙ ap (λ (l : List ℤ). first_with (values_of (valued a.values.now)) Undefined (atoms l)) (c.plain_part-plain.ensures ∙ ap (part_at a.t.now) c.plain_past-second.ensures) in
     let a = c.args in
-    sym (forced_pos (valued a.values.now) a.t.now a.at (sym (first) ∙ c.in_default.is) c.in-Atom-first_with.q (sym (second) ∙ c.in-Atom-first_with.is))
+    sym (forced_pos (valued a.values.now) a.t.now a.at (sym (first) ∙ c.in_default.is) c.in-Some-first_with.q (sym (second) ∙ c.in-Some-first_with.is))
 
 -- src/lib.rt:151:9
-pub returns-in-Atom-first_with-2 : goal.returns-in-Atom-first_with-2
-returns-in-Atom-first_with-2 c =
+pub returns-in-Some-first_with-2 : goal.returns-in-Some-first_with-2
+returns-in-Some-first_with-2 c =
     let first : let a = c.args in
     c.first_with.result ≡ first_with (values_of (valued a.values.now)) Undefined (atoms (part_at a.t.now a.at)) =
     let a = c.args in
@@ -57,7 +57,7 @@ returns-in-Atom-first_with-2 c =
     ∙ ap (λ (l : List ℤ). first_with (values_of (valued a.values.now)) Undefined (atoms l)) (c.plain_part-negated.ensures ∙ ap (part_at a.t.now) (neg-place)) in
     let a = c.args in
     sym (forced_neg (valued a.values.now) a.t.now a.at (sym (first) ∙ c.in_default.is) (sym (second) ∙ c.in_default-first_with.is)
-    _ (sym (third) ∙ c.in-Atom-first_with-2.is))
+    _ (sym (third) ∙ c.in-Some-first_with-2.is))
 
 -- src/lib.rt:135:1
 pub returns : goal.returns
