@@ -4,7 +4,6 @@ use mathlib.Core.Bool.{true, false}
 use mathlib.Core.List.{List, ◌∷◌, map}
 use Prim.Native.Nat.{ℕ, zero, suc, ◌+◌, ◌-◌, ◌≤◌, ◌<◌}
 use native.Mathlib.Numerals.{add-one}
-use native.Mathlib.Omega.{arith}
 use lib.IntN.{ℤ, pos, nat_abs}
 use lib.ListN.{length, get_or, drop, drop_of_length-le}
 use lib.Seq.{drop-cons}
@@ -19,7 +18,7 @@ use Rattle.valuing.specs.Reasons.{reason_at, reason_of, reasons_of}
 use Rattle.std.specs.Prelude.{Some, None}
 use Rattle.literals.specs.Scan.{first_from, atoms_reason}
 use Rattle.literals.proofs.Scans.{first_none, first_at, first_later}
-use Rattle.literals.proofs.Together.{union_assoc}
+use Rattle.literals.proofs.Together.{union_assoc, union_turn}
 
 -- ---- the first false literal
 
@@ -62,35 +61,28 @@ atoms_cons : (a : ℕ → Cell) (r : ℕ → Levels) (p : ℕ) (s : List ℕ) �
 unfolding atoms_reason
 atoms_cons a r p s = refl
 
-module _ (l : List ℤ) (i : ℕ) where
-  pub down : 0 < i → i ≤ length l → drop (i - 1) l ≡ get_or l (i - 1) (pos 0) ∷ drop i l
-  down h k =
-      let e : suc (i - 1) ≡ i = omega arith in
-      drop-cons l (i - 1) (pos 0) (omega arith) ∙ ap (λ (j : ℕ). get_or l (i - 1) (pos 0) ∷ drop j l) e
+-- the reasons of the words from index i on, joined to a set
+module _ (l : List ℤ) (i : ℕ) (a : ℕ → Cell) (r : ℕ → Levels) where
+  abbrev p : ℕ
+  p = nat_abs (get_or l i (pos 0))
 
-  module _ (a : ℕ → Cell) (r : ℕ → Levels) (B : Levels) where
-    abbrev p : ℕ
-    p = nat_abs (get_or l (i - 1) (pos 0))
+  pub atoms_on : i < length l → (A : Levels) → union (atoms_reason a r (atoms (drop (i + 1) l))) (union (reason_at (a p) (r p)) A) ≡ union (atoms_reason a r (atoms (drop i l))) A
+  atoms_on h A =
+      let R = reason_at (a p) (r p) in
+      rw add-one (union_turn (atoms_reason a r (atoms (drop (suc i) l))) R A ∙ sym (union_assoc R (atoms_reason a r (atoms (drop (suc i) l))) A)
+      ∙ ap (λ (S : Levels). union S A) (sym (atoms_cons a r p (atoms (drop (suc i) l)))) ∙ sym (ap (λ (m : List ℤ). union (atoms_reason a r (atoms m)) A) (drop-cons l i (pos 0) h)))
 
-    pub atoms_down : 0 < i → i ≤ length l → (A : Levels) → A ≡ union (atoms_reason a r (atoms (drop i l))) B → union (reason_at (a p) (r p)) A ≡ union (atoms_reason a r (atoms (drop (i - 1) l))) B
-    atoms_down h k A e =
-        ap (union (reason_at (a p) (r p))) e ∙ sym (union_assoc (reason_at (a p) (r p)) (atoms_reason a r (atoms (drop i l))) B)
-        ∙ sym (ap (λ (m : List ℤ). union (atoms_reason a r (atoms m)) B) (down h k) ∙ ap (λ (R : Levels). union R B) (atoms_cons a r p (atoms (drop i l))))
+  pub atoms_end : length l ≤ i → (A : Levels) → union (atoms_reason a r (atoms (drop i l))) A ≡ A
+  unfolding atoms_reason
+  atoms_end h A = ap (λ (m : List ℤ). union (atoms_reason a r (atoms m)) A) (drop_of_length-le l h)
 
-    pub atoms_end : length l ≤ i → B ≡ union (atoms_reason a r (atoms (drop i l))) B
-    unfolding atoms_reason
-    atoms_end h = sym (ap (λ (m : List ℤ). union (atoms_reason a r (atoms m)) B) (drop_of_length-le l h))
+  module _ {C : Type 0} (g : ℤ → C) (f : C → Lit) where
+    pub reasons_on : i < length l → (A : Levels)
+        → union (reasons_of a r (map f (map g (drop (i + 1) l)))) (union (reason_of a r (f (g (get_or l i (pos 0))))) A) ≡ union (reasons_of a r (map f (map g (drop i l)))) A
+    reasons_on h A =
+        let R = reason_of a r (f (g (get_or l i (pos 0)))) in
+        rw add-one (union_turn (reasons_of a r (map f (map g (drop (suc i) l)))) R A ∙ sym (union_assoc R (reasons_of a r (map f (map g (drop (suc i) l)))) A)
+        ∙ sym (ap (λ (m : List ℤ). union (reasons_of a r (map f (map g m))) A) (drop-cons l i (pos 0) h)))
 
-    pub reasons_down : {C : Type 0} (g : ℤ → C) (f : C → Lit) → 0 < i → i ≤ length l → (A : Levels) → A ≡ union (reasons_of a r (map f (map g (drop i l)))) B
-        → union (reason_of a r (f (g (get_or l (i - 1) (pos 0))))) A ≡ union (reasons_of a r (map f (map g (drop (i - 1) l)))) B
-    reasons_down g f h k A e =
-        let R = reason_of a r (f (g (get_or l (i - 1) (pos 0)))) in
-        ap (union R) e ∙ sym (union_assoc R (reasons_of a r (map f (map g (drop i l)))) B)
-        ∙ sym (ap (λ (m : List ℤ). union (reasons_of a r (map f (map g m))) B) (down h k))
-
-    pub reasons_end : {C : Type 0} (g : ℤ → C) (f : C → Lit) → length l ≤ i → B ≡ union (reasons_of a r (map f (map g (drop i l)))) B
-    reasons_end g f h = sym (ap (λ (m : List ℤ). union (reasons_of a r (map f (map g m))) B) (drop_of_length-le l h))
-
--- all of the list
-pub drop_none : (l : List ℤ) (i : ℕ) → i ≤ 0 → drop i l ≡ l
-drop_none l i h = let e : i ≡ 0 = omega arith in ap (λ (j : ℕ). drop j l) e
+    pub reasons_end : length l ≤ i → (A : Levels) → union (reasons_of a r (map f (map g (drop i l)))) A ≡ A
+    reasons_end h A = ap (λ (m : List ℤ). union (reasons_of a r (map f (map g m))) A) (drop_of_length-le l h)

@@ -2,7 +2,7 @@
 // "Reasons and jumps"). Meaning: crate `valuing`; how a list is walked: `specs/Scan.antt`. Nothing here writes.
 #![tactic(auto)]
 
-ghost use Rattle.std.specs.Prelude.{◌≡◌, Bool, not, ◌-◌, ◌≤◌, ◌<◌, T, nat_abs, pos, length, get_or};
+ghost use Rattle.std.specs.Prelude.{◌≡◌, ◌-◌, ◌≤◌, ◌<◌, T, nat_abs, pos, length, get_or};
 ghost use Rattle.std.specs.Int.Signed.{non_neg};
 ghost use Rattle.levels.specs.Levels.{union};
 ghost use Rattle.levels.specs.View.{row, rows};
@@ -36,23 +36,27 @@ pub fn signed(sign: bool, v: Value) -> Value
 
 // ---- one byte of the values: 0 undefined, 1 true, any other false
 
+// That of the atom of a word.
+pub fn byte(w: i32, values: &[u8; 256]) -> u8
+    requires { (1 ≤ nat_abs w) × (nat_abs w ≤ 256) × T (non_neg w) }
+    ensures { cell_by result 0 ≡ valued values.now (nat_abs w) }
+{
+    values[words::plain(w) - 1]
+}
+
 // That of the atom at index i of a list.
 pub fn byte_at(w: &[i32], i: usize, values: &[u8; 256]) -> u8
     requires { (i < length w.now) × (1 ≤ nat_abs (get_or w.now i (pos 0))) × (nat_abs (get_or w.now i (pos 0)) ≤ 256) × T (non_neg (get_or w.now i (pos 0))) }
     ensures { cell_by result 0 ≡ valued values.now (nat_abs (get_or w.now i (pos 0))) }
 {
-    let place = words::number(w, i) - 1;
-    values[place]
+    byte(w[i], values)
 }
 
 // Whether it makes the atom true, with the sign false the opposite.
 pub fn affirms(sign: bool, b: u8) -> bool
     ensures { result ≡ says_true (signed sign (cell_value (cell_by b 0))) }
 {
-    if sign {
-        return b == 1;
-    }
-    1 < b
+    if sign { b == 1 } else { 1 < b }
 }
 
 // ---- lists of atoms
@@ -100,11 +104,8 @@ pub fn atoms_reason(
     ensures { row result ≡ union (atoms_reason (valued values.now) (rows reasons.now) (atoms l.now)) (row more) }
 {
     let mut acc = more;
-    let mut i = l.len();
-    while 0 < i {
-        i -= 1;
-        let p = words::atom(l, i);
-        let next = atom_reason(p, values, reasons, acc);
+    for w in l {
+        let next = atom_reason(words::size(*w), values, reasons, acc);
         acc = next;
     }
     acc
@@ -128,7 +129,7 @@ pub fn literal_value(t: &[i32], tb: Table, l: &[i32], k: usize, values: &[u8; 25
 {
     let at = start(tb, l, k);
     let v = aggregates::aggregate_value(t, at, values);
-    signed(aggregates::plain(l, k), v)
+    signed(0 <= l[k], v)
 }
 
 // The first false one of a list of aggregate literals: its index from 0.
@@ -174,10 +175,8 @@ pub fn literals_reason(
     ensures { row result ≡ union (reasons_of (valued values.now) (rows reasons.now) (literal_lits t.now l.now)) (row more) }
 {
     let mut acc = more;
-    let mut i = l.len();
-    while 0 < i {
-        i -= 1;
-        let next = literal_reason(t, tb, l, i, values, reasons, acc);
+    for k in 0..l.len() {
+        let next = literal_reason(t, tb, l, k, values, reasons, acc);
         acc = next;
     }
     acc
