@@ -22,10 +22,8 @@ pub fn put_atoms(l: &[i32], plain: bool, at: usize, out: &mut [u8]) -> usize
     ensures { Put out.old at (literals_text (map (with plain) (L.atoms l.now))) result out.new }
 {
     let mut to = at;
-    let mut i: usize = 0;
-    while i < l.len() {
+    for i in 0..l.len() {
         to = put_signed(plain, words::atom(l, i), to, out);
-        i += 1;
     }
     to
 }
@@ -72,10 +70,8 @@ fn put_literals(
     ensures { Put out.old at (literals_text (map (stated_literal (held_by t.now tb)) l.now)) result out.new }
 {
     let mut to = at;
-    let mut i: usize = 0;
-    while i < l.len() {
+    for i in 0..l.len() {
         to = put_literal(t, tb, news, l, i, to, out);
-        i += 1;
     }
     to
 }
@@ -137,11 +133,9 @@ pub fn put_rules(t: &[i32], tb: Table, news: &[u16; 128], at: usize, out: &mut [
 {
     let mut to = at;
     let mut rule = tb.first;
-    let mut left = tb.rules;
-    while 0 < left {
+    for _ in 0..tb.rules {
         to = put_rule(t, tb, news, rule, to, out);
         rule = layout::past_rule(t, rule);
-        left -= 1;
     }
     to
 }

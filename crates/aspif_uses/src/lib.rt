@@ -18,11 +18,9 @@ fn mark(l: &[i32], mut marks: [u16; 128]) -> [u16; 128]
     requires { Members 64 l.now }
     ensures { result ≡ mark_all marks l.now }
 {
-    let mut i: usize = 0;
-    while i < l.len() {
+    for i in 0..l.len() {
         let at = place(l, i);
         marks[at] = 1;
-        i += 1;
     }
     marks
 }
@@ -34,17 +32,16 @@ fn marked(t: &[i32], tb: Table) -> [u16; 128]
 {
     let mut marks = [0u16; MOST];
     let mut at = tb.first;
-    let mut left = tb.rules;
-    while 0 < left {
+    for _ in 0..tb.rules {
         let literals = layout::literals_at(t, at);
         let next = mark(layout::part(t, literals), marks);
         marks = next;
         at = layout::past(t, literals);
-        left -= 1;
     }
     marks
 }
 
+// Stays: 0 says that a literal is not in use; an `Option` in each place would double the 256 bytes of the new atoms.
 // The new atom of a literal with this mark, where `next` is the next one that is free; 0 where the literal is not in use.
 fn atom(mark: u16, next: u16) -> u16
     ensures { result ≡ atom_by mark next }
@@ -72,12 +69,10 @@ fn numbered(n: usize, mut marks: [u16; 128]) -> [u16; 128]
     ensures { result ≡ numbered_by (suc n) marks }
 {
     let mut next = n as u16 + 1;
-    let mut i: usize = 0;
-    while i < MOST {
+    for i in 0..MOST {
         let mark = marks[i];
         marks[i] = atom(mark, next);
         next = after(mark, next);
-        i += 1;
     }
     marks
 }

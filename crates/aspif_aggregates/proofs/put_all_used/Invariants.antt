@@ -11,6 +11,3 @@ abbrev pub invariant-loop-j : goal.invariant-loop-j
 invariant-loop-j l =
     (l.j ≤ l.n) × (l.n ≡ l.tb.aggregates)
     × Left l.initial.out l.at (lines_text (defining_all (held_by l.t l.tb) (used (held_by l.t l.tb)))) l.out l.to (lines_text (defining_all (held_by l.t l.tb) (used_from (held_by l.t l.tb).rules l.j (l.n - l.j))))
-
-abbrev pub decreases-loop-j : goal.decreases-loop-j
-decreases-loop-j l = l.n - l.j
