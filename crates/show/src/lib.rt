@@ -18,8 +18,7 @@ use crate::rules::{put_name, put_rules};
 use aspif_parts::start;
 use bytes_out::{put, put_number};
 use layout::Table;
-use results::{Refusal, Written};
-use table::Fault;
+use results::Refusal;
 
 mod naming;
 mod parts;
@@ -43,10 +42,8 @@ fn put_names(t: &[i32], tb: Table, d: usize, at: usize, out: &mut [u8]) -> usize
     ensures { Put out.old at (names_text 1 (take d (held_by t.now tb).aggregates)) result out.new }
 {
     let mut to = at;
-    let mut j: usize = 0;
-    while j < d {
+    for j in 0..d {
         to = put_named(t, tb, j, to, out);
-        j += 1;
     }
     to
 }
@@ -65,7 +62,7 @@ fn put_text(t: &[i32], tb: Table, d: usize, out: &mut [u8]) -> usize
 }
 
 // The text of an accepted table, if the buffer has room for the whole of it.
-fn show_laid(t: &[i32], tb: Table, text: &mut [u8]) -> Written
+fn show_laid(t: &[i32], tb: Table, text: &mut [u8]) -> Result<usize, Refusal>
     requires { Laid t.now tb }
     ensures { Laying (text_of (held_by t.now tb)) text.old text.new result }
 {
@@ -73,23 +70,15 @@ fn show_laid(t: &[i32], tb: Table, text: &mut [u8]) -> Written
     let mut nothing = [0u8; 1];
     let length = put_text(t, tb, d, &mut nothing);
     if text.len() < length {
-        return Written::Refused(Refusal::ShortBuffer);
+        return Err(Refusal::ShortBuffer);
     }
-    let wrote = put_text(t, tb, d, text);
-    Written::Wrote(wrote)
+    Ok(put_text(t, tb, d, text))
 }
 
 // The table in 01's notation at the front of the buffer: how much was written, the rest being kept; or a refusal, and then the whole buffer is kept.
-pub fn show(words: &[i32], text: &mut [u8]) -> Written
+pub fn show(words: &[i32], text: &mut [u8]) -> Result<usize, Refusal>
     ensures { Shows words.now text.old text.new result }
 {
-    let reading = table::read(words);
-    let fault = reading.fault;
-    match fault {
-        Fault::Refused(f) => Written::Refused(f),
-        Fault::Nothing => {
-            let tb = reading.table;
-            show_laid(words, tb, text)
-        }
-    }
+    let tb = table::read(words)?;
+    show_laid(words, tb, text)
 }

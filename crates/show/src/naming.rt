@@ -27,10 +27,8 @@ fn turns(l: &[i32], d: usize, e: usize) -> usize
     ensures { result ≡ N.turns d e l.now }
 {
     let mut next = e;
-    let mut i: usize = 0;
-    while i < l.len() {
+    for i in 0..l.len() {
         next = turn(l, i, d, next);
-        i += 1;
     }
     next
 }
@@ -42,12 +40,10 @@ fn in_turn(t: &[i32], tb: Table, d: usize) -> bool
 {
     let mut next = d + 1;
     let mut rule = tb.first;
-    let mut left = tb.rules;
-    while 0 < left {
+    for _ in 0..tb.rules {
         let literals = layout::literals_at(t, rule);
         next = turns(layout::part(t, literals), d, next);
         rule = layout::past_rule(t, rule);
-        left -= 1;
     }
     next == tb.aggregates + 1
 }
@@ -58,12 +54,10 @@ pub fn named(t: &[i32], tb: Table) -> usize
     ensures { result ≡ N.named (held_by t.now tb) }
 {
     let most = tb.aggregates;
-    let mut d: usize = 0;
-    while d < most {
+    for d in 0..most {
         if in_turn(t, tb, d) {
             return d;
         }
-        d += 1;
     }
-    d
+    most
 }

@@ -15,7 +15,7 @@ use meaning::{Comparison, Function};
 pub fn some(l: &[i32]) -> bool
     ensures { result ≡ N.some l.now }
 {
-    0 < l.len()
+    !l.is_empty()
 }
 
 // What stands between two parts, if one stands before.
@@ -59,11 +59,9 @@ pub fn put_atoms(
 {
     let mut to = at;
     let mut follows = behind;
-    let mut i: usize = 0;
-    while i < l.len() {
+    for i in 0..l.len() {
         to = put_atom(l, i, word, between, follows, to, out);
         follows = true;
-        i += 1;
     }
     to
 }
@@ -86,11 +84,9 @@ fn put_elements(l: &[i32], at: usize, out: &mut [u8]) -> usize
 {
     let mut to = at;
     let mut follows = false;
-    let mut i: usize = 0;
-    while i + 1 < l.len() {
-        to = put_element(l, i, follows, to, out);
+    for j in 0..l.len() / 2 {
+        to = put_element(l, 2 * j, follows, to, out);
         follows = true;
-        i += 2;
     }
     to
 }

@@ -67,11 +67,9 @@ fn put_literals(
 {
     let mut to = at;
     let mut follows = behind;
-    let mut i: usize = 0;
-    while i < l.len() {
+    for i in 0..l.len() {
         to = put_literal(t, tb, d, l, i, follows, to, out);
         follows = true;
-        i += 1;
     }
     to
 }
@@ -169,13 +167,9 @@ pub fn put_rules(t: &[i32], tb: Table, d: usize, at: usize, out: &mut [u8]) -> u
 {
     let mut to = at;
     let mut rule = tb.first;
-    let mut number: usize = 1;
-    let mut left = tb.rules;
-    while 0 < left {
-        to = put_line(t, tb, d, number, rule, to, out);
+    for i in 0..tb.rules {
+        to = put_line(t, tb, d, i + 1, rule, to, out);
         rule = layout::past_rule(t, rule);
-        number += 1;
-        left -= 1;
     }
     to
 }

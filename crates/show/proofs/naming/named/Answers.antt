@@ -33,6 +33,6 @@ loop-d-preserved c =
 pub returns : goal.returns
 returns c =
     let args = c.args in
-    let at-loop = c.loop-d in
-    let at-loop-test = c.loop-d-test in
-    sym (named_last (held_by args.t.now args.tb) at-loop.d (args.tb.aggregates - at-loop.d) (omega (arith, at-loop-test.false))) ∙ at-loop.invariant.1
+    let d = c.loop-d.d in
+    let e : args.tb.aggregates ≡ d = omega arith in
+    e ∙ sym (named_last (held_by args.t.now args.tb) d (args.tb.aggregates - d) (omega arith)) ∙ c.loop-d.invariant.1
