@@ -17,8 +17,7 @@ ghost use Rattle.aspif_write.specs.Promise.{Writes};
 use heads::Lists;
 use judging::Buffer;
 use layout::Table;
-use results::{Refusal, Written};
-use table::Fault;
+use results::Refusal;
 
 // The whole text: header, rules, the lines of the new atoms, the closing 0; the index after it.
 fn put_text(t: &[i32], tb: Table, news: &[u16; 128], out: &mut [u8]) -> usize
@@ -32,7 +31,7 @@ fn put_text(t: &[i32], tb: Table, news: &[u16; 128], out: &mut [u8]) -> usize
 }
 
 // The text of an accepted table, if the buffer has room for the whole of it.
-fn write_laid(t: &[i32], tb: Table, text: &mut [u8]) -> Written
+fn write_laid(t: &[i32], tb: Table, text: &mut [u8]) -> Result<usize, Refusal>
     requires { Laid t.now tb }
     ensures { Laying (text_of (written (held_by t.now tb))) text.old text.new result }
 {
@@ -40,30 +39,22 @@ fn write_laid(t: &[i32], tb: Table, text: &mut [u8]) -> Written
     let mut nothing = [0u8; 1];
     let length = put_text(t, tb, &news, &mut nothing);
     if text.len() < length {
-        return Written::Refused(Refusal::ShortBuffer);
+        return Err(Refusal::ShortBuffer);
     }
-    let wrote = put_text(t, tb, &news, text);
-    Written::Wrote(wrote)
+    Ok(put_text(t, tb, &news, text))
 }
 
 // The table as aspif at the front of the buffer: how much was written, the rest being kept; or a refusal, and then the whole buffer is kept. The memory
 // of the judge is lent: nothing is said of what it holds before or after, and nothing depends on it.
-pub fn write_with(words: &[i32], text: &mut [u8], lists: &mut Lists) -> Written
+pub fn write_with(words: &[i32], text: &mut [u8], lists: &mut Lists) -> Result<usize, Refusal>
     ensures { Writes words.now text.old text.new result }
 {
-    let judged = judging::judge_by(words, Buffer::Nothing, lists);
-    let fault = judged.fault;
-    match fault {
-        Fault::Refused(f) => Written::Refused(f),
-        Fault::Nothing => {
-            let tb = judged.table;
-            write_laid(words, tb, text)
-        }
-    }
+    let tb = judging::judge_by(words, Buffer::Nothing, lists)?;
+    write_laid(words, tb, text)
 }
 
 // The same with memory of its own.
-pub fn write(words: &[i32], text: &mut [u8]) -> Written
+pub fn write(words: &[i32], text: &mut [u8]) -> Result<usize, Refusal>
     ensures { Writes words.now text.old text.new result }
 {
     let mut lists = [0u16; heads::SIZE];
