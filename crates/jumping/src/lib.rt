@@ -16,7 +16,7 @@ use interpretation::Interpretation;
 use layout::Table;
 use outcome::{Ending, Found, Halt, Outcome, Start};
 use rules::Step;
-use support::{Ask, Next};
+use support::Ask;
 use turns::{Back, Turn};
 
 // The search over the rules of list 0, by the lists of the table's rules: propagate, then answer, end, open a level or go back, and again.
@@ -50,6 +50,7 @@ pub fn search_by(
             let mut changed = false;
             let mut quiet = first; // from there on the rules passed ask nothing now
             let mut r = first;
+            // Stays: two counted loops: an atom that is set moves the ends of both, and a range keeps the end with which it began.
             'rules: while r < rules_to {
                 let at = lists[r] as usize;
                 let s = rules::demand(t, tb, at, &it.values);
@@ -101,16 +102,10 @@ pub fn search_by(
                         let whole = propagation::whole_reason(
                             t, tb, lists, p, &it.values, &reasons,
                         );
-                        'sets: loop {
-                            let f = support::forced(t, tb, place, &it.values);
-                            match f {
-                                Next::Nothing => break 'sets,
-                                Next::Set(q, v) => {
-                                    let j = q - 1;
-                                    reasons[j] = whole;
-                                    it = it.set(q, v);
-                                }
-                            }
+                        'sets: while let Some((q, v)) = support::forced(t, tb, place, &it.values) {
+                            let j = q - 1;
+                            reasons[j] = whole;
+                            it = it.set(q, v);
                         }
                         changed = true;
                         last = p;

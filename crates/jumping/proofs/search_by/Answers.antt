@@ -24,11 +24,11 @@ use Rattle.jumping.proofs.Turns.{answers, limits}
 use Rattle.search.proofs.Fuel.{meas, turn_less}
 use Rattle.turns.specs.declared.Turn.TheVariants.{Answer, Limit}
 use Rattle.jumping.proofs.States.{problem}
-use Rattle.jumping.proofs.Settled.{ordered, depth, chosen, began, reached, turned, decides, spends, opens, picked, chose, struck, passed, back, over, jumps}
+use Rattle.jumping.proofs.Settled.{Turned, ordered, depth, chosen, began, reached, turned, decides, spends, opens, picked, chose, struck, passed, back, over, jumps}
 use Rattle.jumping.proofs.AtomTurn.{sole_rule, aimed, sets_fewer, sets_long, sets_on, Calm2, calm_over, calm_unsets, calm_forces, passes_one}
 use Rattle.jumping.proofs.Passing.{Result, rule_conflict, atom_conflict, at_rest_lem, falls, passes_go_on}
 use Rattle.jumping.proofs.search_by.Goals as goal
-use Rattle.jumping.proofs.search_by.Goals.{Left-rules, in-Nothing, in-Set, in-Nothing-a, in-Unset, in-Sole+in-Nothing-f, then-rules-test+in-Conflict, else-rules-test+then-atoms-test+in-Conflict-a, else-rules-test+else-atoms-test+then-not-changed}
+use Rattle.jumping.proofs.search_by.Goals.{Left-rules, After-decide-turn, in-Nothing, in-Set, in-Nothing-a, in-Unset, in-Sole+in_default, then-rules-test+in-Conflict, else-rules-test+then-atoms-test+in-Conflict-a, else-rules-test+else-atoms-test+then-not-changed}
 
 -- ---- the start
 
@@ -129,8 +129,8 @@ rules-preserved c =
 
 -- ---- the atom loop, and step e's loop inside it
 
-pub forced-f-requires : goal.forced-f-requires
-forced-f-requires c =
+pub forced-requires : goal.forced-requires
+forced-requires c =
     let a = c.args in
     (c.requires.0, (sole_rule a.t.now a.tb c.atoms.it c.atoms.p c.in-Sole.place c.requires.0 (sym c.asked-a.ensures ∙ c.in-Sole.is)).lies)
 
@@ -138,13 +138,13 @@ pub overflow_sub-j : goal.overflow_sub-j
 overflow_sub-j c =
     let a = c.args in
     let s = sole_rule a.t.now a.tb c.atoms.it c.atoms.p c.in-Sole.place c.requires.0 (sym c.asked-a.ensures ∙ c.in-Sole.is) in
-    (aimed a.t.now a.tb c.sets.it c.atoms.it c.in-Sole.place c.in-Set-f.q c.in-Set-f.v c.requires.0 s (sym c.forced-f.ensures ∙ c.in-Set-f.is)).above
+    (aimed a.t.now a.tb c.sets.it c.atoms.it c.in-Sole.place c.in-Some.q c.in-Some.v c.requires.0 s (sym c.forced.ensures ∙ c.in-Some.is)).above
 
 pub offset_bounds-reasons-j : goal.offset_bounds-reasons-j
 offset_bounds-reasons-j c =
     let a = c.args in
     let s = sole_rule a.t.now a.tb c.atoms.it c.atoms.p c.in-Sole.place c.requires.0 (sym c.asked-a.ensures ∙ c.in-Sole.is) in
-    let x = aimed a.t.now a.tb c.sets.it c.atoms.it c.in-Sole.place c.in-Set-f.q c.in-Set-f.v c.requires.0 s (sym c.forced-f.ensures ∙ c.in-Set-f.is) in
+    let x = aimed a.t.now a.tb c.sets.it c.atoms.it c.in-Sole.place c.in-Some.q c.in-Some.v c.requires.0 s (sym c.forced.ensures ∙ c.in-Some.is) in
     let l = x.above in
     let h = x.few in
     omega (arith, l, h)
@@ -153,35 +153,35 @@ pub bounds-reasons-j : goal.bounds-reasons-j
 bounds-reasons-j c =
     let a = c.args in
     let s = sole_rule a.t.now a.tb c.atoms.it c.atoms.p c.in-Sole.place c.requires.0 (sym c.asked-a.ensures ∙ c.in-Sole.is) in
-    let x = aimed a.t.now a.tb c.sets.it c.atoms.it c.in-Sole.place c.in-Set-f.q c.in-Set-f.v c.requires.0 s (sym c.forced-f.ensures ∙ c.in-Set-f.is) in
+    let x = aimed a.t.now a.tb c.sets.it c.atoms.it c.in-Sole.place c.in-Some.q c.in-Some.v c.requires.0 s (sym c.forced.ensures ∙ c.in-Some.is) in
     let l = x.above in
     let h = x.few in
     omega (arith, l, h)
 
-pub set-it-requires-in-Set-f : goal.set-it-requires-in-Set-f
-set-it-requires-in-Set-f c =
+pub set-it-requires-in-Some : goal.set-it-requires-in-Some
+set-it-requires-in-Some c =
     let a = c.args in
     let s = sole_rule a.t.now a.tb c.atoms.it c.atoms.p c.in-Sole.place c.requires.0 (sym c.asked-a.ensures ∙ c.in-Sole.is) in
-    let x = aimed a.t.now a.tb c.sets.it c.atoms.it c.in-Sole.place c.in-Set-f.q c.in-Set-f.v c.requires.0 s (sym c.forced-f.ensures ∙ c.in-Set-f.is) in
+    let x = aimed a.t.now a.tb c.sets.it c.atoms.it c.in-Sole.place c.in-Some.q c.in-Some.v c.requires.0 s (sym c.forced.ensures ∙ c.in-Some.is) in
     (x.above, x.few)
 
 pub sets-smaller : goal.sets-smaller
 sets-smaller c =
     let a = c.args in
     let s = sole_rule a.t.now a.tb c.atoms.it c.atoms.p c.in-Sole.place c.requires.0 (sym c.asked-a.ensures ∙ c.in-Sole.is) in
-    let x = aimed a.t.now a.tb c.sets.it c.atoms.it c.in-Sole.place c.in-Set-f.q c.in-Set-f.v c.requires.0 s (sym c.forced-f.ensures ∙ c.in-Set-f.is) in
-    sets_fewer a.t.now a.tb c.sets.it c.in-Sole.place c.in-Set-f.q c.in-Set-f.v x c.set-it-in-Set-f.result c.set-it-in-Set-f.ensures
+    let x = aimed a.t.now a.tb c.sets.it c.atoms.it c.in-Sole.place c.in-Some.q c.in-Some.v c.requires.0 s (sym c.forced.ensures ∙ c.in-Some.is) in
+    sets_fewer a.t.now a.tb c.sets.it c.in-Sole.place c.in-Some.q c.in-Some.v x c.set-it-in-Some.result c.set-it-in-Some.ensures
 
 pub sets-preserved : goal.sets-preserved
 sets-preserved c =
     let a = c.args in
     let i = c.sets.invariant in
-    let q = c.in-Set-f.q in
-    let v = c.in-Set-f.v in
-    let n = c.set-it-in-Set-f in
+    let q = c.in-Some.q in
+    let v = c.in-Some.v in
+    let n = c.set-it-in-Some in
     let why = c.whole_reason-whole-in-Sole.result in
     let s = sole_rule a.t.now a.tb c.atoms.it c.atoms.p c.in-Sole.place c.requires.0 (sym c.asked-a.ensures ∙ c.in-Sole.is) in
-    let x = aimed a.t.now a.tb c.sets.it c.atoms.it c.in-Sole.place q v c.requires.0 s (sym c.forced-f.ensures ∙ c.in-Set-f.is) in (
+    let x = aimed a.t.now a.tb c.sets.it c.atoms.it c.in-Sole.place q v c.requires.0 s (sym c.forced.ensures ∙ c.in-Some.is) in (
       sets_long a.t.now a.tb c.sets.it c.in-Sole.place q v x n.result n.ensures c.sets.reasons i.0 why,
       kept_set (view c.atoms.it) (view c.sets.it) (view n.result) q v i.1 n.ensures,
       sets_on a.t.now a.tb c.sets.it c.in-Sole.place q v x n.result n.ensures c.sets.reasons i.0 why ∙ i.2,
@@ -203,10 +203,10 @@ atoms-preserved c =
           rw (w.it-is, w.reasons-is, w.rules_to-is, w.atoms_to-is, w.changed-is, w.last-is)
           (calm_unsets a.t.now a.tb a.lists.now l.it l.reasons l.changed l.p w.blame-others.result w.set-it-in-Unset.result w.blame-others.ensures i.2 c.requires.0 i.0 h
           (sym c.asked-a.ensures ∙ w.in-Unset.is) w.set-it-in-Unset.ensures)
-      | in-Sole+in-Nothing-f w ↦
+      | in-Sole+in_default w ↦
           rw (w.it-is, w.reasons-is, w.rules_to-is, w.atoms_to-is, w.changed-is, w.last-is)
           (calm_forces a.t.now a.tb a.lists.now l.it l.reasons l.changed l.p w.whole_reason-whole-in-Sole.result w.whole_reason-whole-in-Sole.ensures c.requires.0 w.in-Sole.place w.sets.it w.sets.reasons
-          (sym c.asked-a.ensures ∙ w.in-Sole.is) w.sets.invariant.0 w.sets.invariant.1 w.sets.invariant.2 (sym w.forced-f.ensures ∙ w.in-Nothing-f.is))
+          (sym c.asked-a.ensures ∙ w.in-Sole.is) w.sets.invariant.0 w.sets.invariant.1 w.sets.invariant.2 (sym w.forced.ensures ∙ w.in_default.is))
     ] in (
       omega arith,
       omega (arith, h),
@@ -279,193 +279,219 @@ long c =
 
 -- ---- the turn
 
+abbrev turn_at : (c : After-decide-turn)
+    → Handed (taking c.args.t.now c.args.lists.now) c.args.tb.atoms c.turns.it c.turns.reasons c.passes.made c.rules-test.it c.rules-test.reasons c.rules-test.why c.rules-test.out → Turned
+turn_at c h = record {
+  t = c.args.t.now;
+  tb = c.args.tb;
+  cycles = c.args.cycles;
+  lists = c.args.lists.now;
+  limit = c.args.limit;
+  laid = c.requires.0;
+  listed = c.requires.1;
+  it0 = c.turns.it;
+  rows0 = c.turns.reasons;
+  made0 = c.turns.choices;
+  skips0 = c.turns.skips;
+  most0 = c.turns.most;
+  began_ordered = c.turns.invariant.0;
+  made = c.passes.made;
+  it = c.rules-test.it;
+  reasons = c.rules-test.reasons;
+  why = c.rules-test.why;
+  out = c.rules-test.out;
+  h = h;
+  passes = c.greater-most.result;
+  greatest = c.greater-most.ensures;
+}
+
 pub overflow_add-choices : goal.overflow_add-choices
 overflow_add-choices c =
-    let h : Handed (taking c.args.t.now c.args.lists.now) c.args.tb.atoms c.turns.it c.turns.reasons c.passes.made c.rules-test.it c.rules-test.reasons c.rules-test.why c.rules-test.out = propagates (goal.at.overflow_add-choices c).Left-rules in
-    let k = spends c.args.t.now c.args.tb c.args.cycles c.args.lists.now c.args.limit c.requires.0 c.requires.1 c.turns.it c.turns.reasons c.turns.choices c.turns.skips c.turns.most c.turns.invariant.0 c.passes.made c.rules-test.it c.rules-test.reasons c.rules-test.why c.rules-test.out h c.greater-most.result c.greater-most.ensures _ (sym c.in-Answer.is ∙ c.decide-turn.ensures) in
+    let T = turn_at (goal.at.overflow_add-choices c).After-decide-turn (propagates (goal.at.overflow_add-choices c).Left-rules) in
+    let k = spends T _ (sym c.in-Answer.is ∙ c.decide-turn.ensures) in
     omega (arith, k, c.turns.invariant.2, c.ranges.limit)
 
 pub overflow_add-choices-in-Limit : goal.overflow_add-choices-in-Limit
 overflow_add-choices-in-Limit c =
-    let h : Handed (taking c.args.t.now c.args.lists.now) c.args.tb.atoms c.turns.it c.turns.reasons c.passes.made c.rules-test.it c.rules-test.reasons c.rules-test.why c.rules-test.out = propagates (goal.at.overflow_add-choices-in-Limit c).Left-rules in
-    let k = spends c.args.t.now c.args.tb c.args.cycles c.args.lists.now c.args.limit c.requires.0 c.requires.1 c.turns.it c.turns.reasons c.turns.choices c.turns.skips c.turns.most c.turns.invariant.0 c.passes.made c.rules-test.it c.rules-test.reasons c.rules-test.why c.rules-test.out h c.greater-most.result c.greater-most.ensures _ (sym c.in-Limit.is ∙ c.decide-turn.ensures) in
+    let T = turn_at (goal.at.overflow_add-choices-in-Limit c).After-decide-turn (propagates (goal.at.overflow_add-choices-in-Limit c).Left-rules) in
+    let k = spends T _ (sym c.in-Limit.is ∙ c.decide-turn.ensures) in
     omega (arith, k, c.turns.invariant.2, c.ranges.limit)
 
 pub overflow_add-choices-in-Conflict-turn : goal.overflow_add-choices-in-Conflict-turn
 overflow_add-choices-in-Conflict-turn c =
-    let h : Handed (taking c.args.t.now c.args.lists.now) c.args.tb.atoms c.turns.it c.turns.reasons c.passes.made c.rules-test.it c.rules-test.reasons c.rules-test.why c.rules-test.out = propagates (goal.at.overflow_add-choices-in-Conflict-turn c).Left-rules in
-    let k = spends c.args.t.now c.args.tb c.args.cycles c.args.lists.now c.args.limit c.requires.0 c.requires.1 c.turns.it c.turns.reasons c.turns.choices c.turns.skips c.turns.most c.turns.invariant.0 c.passes.made c.rules-test.it c.rules-test.reasons c.rules-test.why c.rules-test.out h c.greater-most.result c.greater-most.ensures _ (sym c.in-Conflict-turn.is ∙ c.decide-turn.ensures) in
+    let T = turn_at (goal.at.overflow_add-choices-in-Conflict-turn c).After-decide-turn (propagates (goal.at.overflow_add-choices-in-Conflict-turn c).Left-rules) in
+    let k = spends T _ (sym c.in-Conflict-turn.is ∙ c.decide-turn.ensures) in
     omega (arith, k, c.turns.invariant.2, c.ranges.limit)
 
 pub returns-in-Answer : goal.returns-in-Answer
 returns-in-Answer c =
-    let h : Handed (taking c.args.t.now c.args.lists.now) c.args.tb.atoms c.turns.it c.turns.reasons c.passes.made c.rules-test.it c.rules-test.reasons c.rules-test.why c.rules-test.out = propagates (goal.at.returns-in-Answer c).Left-rules in
-    let d = depth c.args.t.now c.args.tb c.args.cycles c.args.lists.now c.args.limit c.requires.0 c.requires.1 c.turns.it c.turns.reasons c.turns.choices c.turns.skips c.turns.most c.turns.invariant.0 c.passes.made c.rules-test.it c.rules-test.reasons c.rules-test.why c.rules-test.out h in
-    let l = spends c.args.t.now c.args.tb c.args.cycles c.args.lists.now c.args.limit c.requires.0 c.requires.1 c.turns.it c.turns.reasons c.turns.choices c.turns.skips c.turns.most c.turns.invariant.0 c.passes.made c.rules-test.it c.rules-test.reasons c.rules-test.why c.rules-test.out h c.greater-most.result c.greater-most.ensures _ (sym c.in-Answer.is ∙ c.decide-turn.ensures) in
+    let T = turn_at (goal.at.returns-in-Answer c).After-decide-turn (propagates (goal.at.returns-in-Answer c).Left-rules) in
+    let d = depth T in
+    let l = spends T _ (sym c.in-Answer.is ∙ c.decide-turn.ensures) in
     let v = c.turns.invariant.1 in
     let w = c.turns.invariant.2 in
     subst (Searches (problem c.args.cycles c.args.t.now c.args.tb c.args.lists.now) c.args.limit c.args.from c.args.rows0) (sym c.pack.ensures) λ s. (let b = (c.turns.invariant.4 s).0 in
     let k = c.in-Answer.spent in
     let z : k + c.turns.choices ≡ c.turns.choices + k = omega arith in
-    let r = answers c.args.cycles (taking c.args.t.now c.args.lists.now) c.args.tb.atoms c.args.limit (reached c.args.t.now c.args.tb c.args.cycles c.args.lists.now c.args.limit c.requires.0 c.requires.1 c.turns.it c.turns.reasons c.turns.choices c.turns.skips c.turns.most c.turns.invariant.0 c.passes.made c.rules-test.it c.rules-test.reasons c.rules-test.why c.rules-test.out h c.greater-most.result c.greater-most.ensures b) c.rules-test.out (row c.rules-test.why) k (decides c.args.t.now c.args.tb c.args.cycles c.args.lists.now c.args.limit c.requires.0 c.requires.1 c.turns.it c.turns.reasons c.turns.choices c.turns.skips c.turns.most c.turns.invariant.0 c.passes.made c.rules-test.it c.rules-test.reasons c.rules-test.why c.rules-test.out h c.greater-most.result c.greater-most.ensures (Answer k) (sym c.in-Answer.is ∙ c.decide-turn.ensures) b) in
+    let r = answers c.args.cycles (taking c.args.t.now c.args.lists.now) c.args.tb.atoms c.args.limit (reached T b) c.rules-test.out (row c.rules-test.why) k (decides T (Answer k) (sym c.in-Answer.is ∙ c.decide-turn.ensures) b) in
     record {
-      last = began c.args.t.now c.args.tb c.args.cycles c.args.lists.now c.args.limit c.requires.0 c.requires.1 c.turns.it c.turns.reasons c.turns.choices c.turns.skips c.turns.most c.turns.invariant.0 c.passes.made c.rules-test.it c.rules-test.reasons c.rules-test.why c.rules-test.out h c.greater-most.result c.greater-most.ensures b;
+      last = began T b;
       skipped = b;
       led = (c.turns.invariant.4 s).1;
-      ends = turned c.args.t.now c.args.tb c.args.cycles c.args.lists.now c.args.limit c.requires.0 c.requires.1 c.turns.it c.turns.reasons c.turns.choices c.turns.skips c.turns.most c.turns.invariant.0 c.passes.made c.rules-test.it c.rules-test.reasons c.rules-test.why c.rules-test.out h c.greater-most.result c.greater-most.ensures b ∙ r ∙ (λ j. end (record { result = answer (true_atoms c.args.tb.atoms (cells c.rules-test.it.values c.rules-test.it.records)); choices = z j; skips = c.turns.skips; passes = c.greater-most.result; skipped = b }));
-      state = h.state;
-      reasoned = h.reasoned;
-      again = λ _. record { ordered = ordered c.args.t.now c.args.tb c.args.cycles c.args.lists.now c.args.limit c.requires.0 c.requires.1 c.turns.it c.turns.reasons c.turns.choices c.turns.skips c.turns.most c.turns.invariant.0 c.passes.made c.rules-test.it c.rules-test.reasons c.rules-test.why c.rules-test.out h; paid = omega (arith, l, d.0, v, w); few = omega (arith, l, w) };
+      ends = turned T b ∙ r ∙ (λ j. end (record { result = answer (true_atoms c.args.tb.atoms (cells c.rules-test.it.values c.rules-test.it.records)); choices = z j; skips = c.turns.skips; passes = c.greater-most.result; skipped = b }));
+      state = T.h.state;
+      reasoned = T.h.reasoned;
+      again = λ _. record { ordered = ordered T; paid = omega (arith, l, d.0, v, w); few = omega (arith, l, w) };
     })
 
 pub returns-in-Limit : goal.returns-in-Limit
 returns-in-Limit c =
-    let h : Handed (taking c.args.t.now c.args.lists.now) c.args.tb.atoms c.turns.it c.turns.reasons c.passes.made c.rules-test.it c.rules-test.reasons c.rules-test.why c.rules-test.out = propagates (goal.at.returns-in-Limit c).Left-rules in
+    let T = turn_at (goal.at.returns-in-Limit c).After-decide-turn (propagates (goal.at.returns-in-Limit c).Left-rules) in
     subst (Searches (problem c.args.cycles c.args.t.now c.args.tb c.args.lists.now) c.args.limit c.args.from c.args.rows0) (sym c.pack-in-Limit.ensures) λ s. (let b = (c.turns.invariant.4 s).0 in
     let k = c.in-Limit.spent in
     let z : k + c.turns.choices ≡ c.turns.choices + k = omega arith in
-    let r = limits c.args.cycles (taking c.args.t.now c.args.lists.now) c.args.tb.atoms c.args.limit (reached c.args.t.now c.args.tb c.args.cycles c.args.lists.now c.args.limit c.requires.0 c.requires.1 c.turns.it c.turns.reasons c.turns.choices c.turns.skips c.turns.most c.turns.invariant.0 c.passes.made c.rules-test.it c.rules-test.reasons c.rules-test.why c.rules-test.out h c.greater-most.result c.greater-most.ensures b) c.rules-test.out (row c.rules-test.why) k (decides c.args.t.now c.args.tb c.args.cycles c.args.lists.now c.args.limit c.requires.0 c.requires.1 c.turns.it c.turns.reasons c.turns.choices c.turns.skips c.turns.most c.turns.invariant.0 c.passes.made c.rules-test.it c.rules-test.reasons c.rules-test.why c.rules-test.out h c.greater-most.result c.greater-most.ensures (Limit k) (sym c.in-Limit.is ∙ c.decide-turn.ensures) b) in
+    let r = limits c.args.cycles (taking c.args.t.now c.args.lists.now) c.args.tb.atoms c.args.limit (reached T b) c.rules-test.out (row c.rules-test.why) k (decides T (Limit k) (sym c.in-Limit.is ∙ c.decide-turn.ensures) b) in
     record {
-      last = began c.args.t.now c.args.tb c.args.cycles c.args.lists.now c.args.limit c.requires.0 c.requires.1 c.turns.it c.turns.reasons c.turns.choices c.turns.skips c.turns.most c.turns.invariant.0 c.passes.made c.rules-test.it c.rules-test.reasons c.rules-test.why c.rules-test.out h c.greater-most.result c.greater-most.ensures b;
+      last = began T b;
       skipped = b;
       led = (c.turns.invariant.4 s).1;
-      ends = turned c.args.t.now c.args.tb c.args.cycles c.args.lists.now c.args.limit c.requires.0 c.requires.1 c.turns.it c.turns.reasons c.turns.choices c.turns.skips c.turns.most c.turns.invariant.0 c.passes.made c.rules-test.it c.rules-test.reasons c.rules-test.why c.rules-test.out h c.greater-most.result c.greater-most.ensures b ∙ r ∙ (λ j. end (record { result = limit; choices = z j; skips = c.turns.skips; passes = c.greater-most.result; skipped = b }));
-      state = h.state;
-      reasoned = h.reasoned;
+      ends = turned T b ∙ r ∙ (λ j. end (record { result = limit; choices = z j; skips = c.turns.skips; passes = c.greater-most.result; skipped = b }));
+      state = T.h.state;
+      reasoned = T.h.reasoned;
       again = λ e. absurd (let z : ◌≡◌ {A = ℕ} 0 1 = cc in omega arith);
     })
 
 pub returns-in-End : goal.returns-in-End
 returns-in-End c =
-    let h : Handed (taking c.args.t.now c.args.lists.now) c.args.tb.atoms c.turns.it c.turns.reasons c.passes.made c.rules-test.it c.rules-test.reasons c.rules-test.why c.rules-test.out = propagates (goal.at.returns-in-End c).Left-rules in
+    let T = turn_at (goal.at.returns-in-End c).After-decide-turn (propagates (goal.at.returns-in-End c).Left-rules) in
     subst (Searches (problem c.args.cycles c.args.t.now c.args.tb c.args.lists.now) c.args.limit c.args.from c.args.rows0) (sym c.pack-in-End.ensures) λ s. (let b = (c.turns.invariant.4 s).0 in
     let i = c.rules-test.it in
     let k = c.in-Conflict-turn.spent in
     let m = branches (choices i.chosen i.depth) 0 i.depth ++ b in
     let z : k + c.turns.choices ≡ c.turns.choices + k = omega arith in
     record {
-      last = began c.args.t.now c.args.tb c.args.cycles c.args.lists.now c.args.limit c.requires.0 c.requires.1 c.turns.it c.turns.reasons c.turns.choices c.turns.skips c.turns.most c.turns.invariant.0 c.passes.made c.rules-test.it c.rules-test.reasons c.rules-test.why c.rules-test.out h c.greater-most.result c.greater-most.ensures b;
+      last = began T b;
       skipped = m;
       led = (c.turns.invariant.4 s).1;
-      ends = struck c.args.t.now c.args.tb c.args.cycles c.args.lists.now c.args.limit c.requires.0 c.requires.1 c.turns.it c.turns.reasons c.turns.choices c.turns.skips c.turns.most c.turns.invariant.0 c.passes.made c.rules-test.it c.rules-test.reasons c.rules-test.why c.rules-test.out h c.greater-most.result c.greater-most.ensures c.in-Conflict-turn.spent (sym c.in-Conflict-turn.is ∙ c.decide-turn.ensures) c.blame-reason.result c.blame-reason.ensures _ (sym c.in-End.is ∙ c.go_back-back.ensures) b ∙ (λ j. end (record { result = no_answer; choices = z j; skips = c.turns.skips + c.in-End.passed; passes = c.greater-most.result; skipped = m }));
-      state = h.state;
-      reasoned = h.reasoned;
+      ends = struck T c.in-Conflict-turn.spent (sym c.in-Conflict-turn.is ∙ c.decide-turn.ensures) c.blame-reason.result c.blame-reason.ensures _ (sym c.in-End.is ∙ c.go_back-back.ensures) b ∙ (λ j. end (record { result = no_answer; choices = z j; skips = c.turns.skips + c.in-End.passed; passes = c.greater-most.result; skipped = m }));
+      state = T.h.state;
+      reasoned = T.h.reasoned;
       again = λ e. absurd (let z : ◌≡◌ {A = ℕ} 0 1 = cc in omega arith);
     })
 
 pub overflow_sub-i-in-Choose : goal.overflow_sub-i-in-Choose
 overflow_sub-i-in-Choose c =
-    let h : Handed (taking c.args.t.now c.args.lists.now) c.args.tb.atoms c.turns.it c.turns.reasons c.passes.made c.rules-test.it c.rules-test.reasons c.rules-test.why c.rules-test.out = propagates (goal.at.overflow_sub-i-in-Choose c).Left-rules in
-    let x = picked c.args.t.now c.args.tb c.args.cycles c.args.lists.now c.args.limit c.requires.0 c.requires.1 c.turns.it c.turns.reasons c.turns.choices c.turns.skips c.turns.most c.turns.invariant.0 c.passes.made c.rules-test.it c.rules-test.reasons c.rules-test.why c.rules-test.out h c.greater-most.result c.greater-most.ensures c.in-Choose.a (sym c.in-Choose.is ∙ c.decide-turn.ensures) in
+    let T = turn_at (goal.at.overflow_sub-i-in-Choose c).After-decide-turn (propagates (goal.at.overflow_sub-i-in-Choose c).Left-rules) in
+    let x = picked T c.in-Choose.a (sym c.in-Choose.is ∙ c.decide-turn.ensures) in
     x.0
 
 pub single-own-requires : goal.single-own-requires
 single-own-requires c =
-    let h : Handed (taking c.args.t.now c.args.lists.now) c.args.tb.atoms c.turns.it c.turns.reasons c.passes.made c.rules-test.it c.rules-test.reasons c.rules-test.why c.rules-test.out = propagates (goal.at.single-own-requires c).Left-rules in
-    let x = picked c.args.t.now c.args.tb c.args.cycles c.args.lists.now c.args.limit c.requires.0 c.requires.1 c.turns.it c.turns.reasons c.turns.choices c.turns.skips c.turns.most c.turns.invariant.0 c.passes.made c.rules-test.it c.rules-test.reasons c.rules-test.why c.rules-test.out h c.greater-most.result c.greater-most.ensures c.in-Choose.a (sym c.in-Choose.is ∙ c.decide-turn.ensures) in
+    let T = turn_at (goal.at.single-own-requires c).After-decide-turn (propagates (goal.at.single-own-requires c).Left-rules) in
+    let x = picked T c.in-Choose.a (sym c.in-Choose.is ∙ c.decide-turn.ensures) in
     let y = x.2 in omega arith
 
 pub offset_bounds-reasons-i-in-Choose : goal.offset_bounds-reasons-i-in-Choose
 offset_bounds-reasons-i-in-Choose c =
-    let h : Handed (taking c.args.t.now c.args.lists.now) c.args.tb.atoms c.turns.it c.turns.reasons c.passes.made c.rules-test.it c.rules-test.reasons c.rules-test.why c.rules-test.out = propagates (goal.at.offset_bounds-reasons-i-in-Choose c).Left-rules in
-    let x = picked c.args.t.now c.args.tb c.args.cycles c.args.lists.now c.args.limit c.requires.0 c.requires.1 c.turns.it c.turns.reasons c.turns.choices c.turns.skips c.turns.most c.turns.invariant.0 c.passes.made c.rules-test.it c.rules-test.reasons c.rules-test.why c.rules-test.out h c.greater-most.result c.greater-most.ensures c.in-Choose.a (sym c.in-Choose.is ∙ c.decide-turn.ensures) in
+    let T = turn_at (goal.at.offset_bounds-reasons-i-in-Choose c).After-decide-turn (propagates (goal.at.offset_bounds-reasons-i-in-Choose c).Left-rules) in
+    let x = picked T c.in-Choose.a (sym c.in-Choose.is ∙ c.decide-turn.ensures) in
     let y = x.1 in omega arith
 
 pub bounds-reasons-i-in-Choose : goal.bounds-reasons-i-in-Choose
 bounds-reasons-i-in-Choose c =
-    let h : Handed (taking c.args.t.now c.args.lists.now) c.args.tb.atoms c.turns.it c.turns.reasons c.passes.made c.rules-test.it c.rules-test.reasons c.rules-test.why c.rules-test.out = propagates (goal.at.bounds-reasons-i-in-Choose c).Left-rules in
-    let x = picked c.args.t.now c.args.tb c.args.cycles c.args.lists.now c.args.limit c.requires.0 c.requires.1 c.turns.it c.turns.reasons c.turns.choices c.turns.skips c.turns.most c.turns.invariant.0 c.passes.made c.rules-test.it c.rules-test.reasons c.rules-test.why c.rules-test.out h c.greater-most.result c.greater-most.ensures c.in-Choose.a (sym c.in-Choose.is ∙ c.decide-turn.ensures) in
+    let T = turn_at (goal.at.bounds-reasons-i-in-Choose c).After-decide-turn (propagates (goal.at.bounds-reasons-i-in-Choose c).Left-rules) in
+    let x = picked T c.in-Choose.a (sym c.in-Choose.is ∙ c.decide-turn.ensures) in
     let y = x.0 in let z = x.1 in omega arith
 
 pub open-it-requires : goal.open-it-requires
 open-it-requires c =
-    let h : Handed (taking c.args.t.now c.args.lists.now) c.args.tb.atoms c.turns.it c.turns.reasons c.passes.made c.rules-test.it c.rules-test.reasons c.rules-test.why c.rules-test.out = propagates (goal.at.open-it-requires c).Left-rules in
-    let x = picked c.args.t.now c.args.tb c.args.cycles c.args.lists.now c.args.limit c.requires.0 c.requires.1 c.turns.it c.turns.reasons c.turns.choices c.turns.skips c.turns.most c.turns.invariant.0 c.passes.made c.rules-test.it c.rules-test.reasons c.rules-test.why c.rules-test.out h c.greater-most.result c.greater-most.ensures c.in-Choose.a (sym c.in-Choose.is ∙ c.decide-turn.ensures) in
+    let T = turn_at (goal.at.open-it-requires c).After-decide-turn (propagates (goal.at.open-it-requires c).Left-rules) in
+    let x = picked T c.in-Choose.a (sym c.in-Choose.is ∙ c.decide-turn.ensures) in
     x
 
 pub turns-smaller-in-Choose : goal.turns-smaller-in-Choose
 unfolding meas
 turns-smaller-in-Choose c =
-    let h : Handed (taking c.args.t.now c.args.lists.now) c.args.tb.atoms c.turns.it c.turns.reasons c.passes.made c.rules-test.it c.rules-test.reasons c.rules-test.why c.rules-test.out = propagates (goal.at.turns-smaller-in-Choose c).Left-rules in
+    let T = turn_at (goal.at.turns-smaller-in-Choose c).After-decide-turn (propagates (goal.at.turns-smaller-in-Choose c).Left-rules) in
     let len : length c.rules-test.reasons ≡ 256 = long (goal.at.turns-smaller-in-Choose c).Left-rules in
-    turn_less (problem c.args.cycles c.args.t.now c.args.tb c.args.lists.now) jump c.args.limit _ _ (chose c.args.t.now c.args.tb c.args.cycles c.args.lists.now c.args.limit c.requires.0 c.requires.1 c.turns.it c.turns.reasons c.turns.choices c.turns.skips c.turns.most c.turns.invariant.0 c.passes.made c.rules-test.it c.rules-test.reasons c.rules-test.why c.rules-test.out h c.greater-most.result c.greater-most.ensures c.in-Choose.a (sym c.in-Choose.is ∙ c.decide-turn.ensures) len _ c.single-own.ensures _ c.open-it.ensures [])
+    turn_less (problem c.args.cycles c.args.t.now c.args.tb c.args.lists.now) jump c.args.limit _ _ (chose T c.in-Choose.a (sym c.in-Choose.is ∙ c.decide-turn.ensures) len _ c.single-own.ensures _ c.open-it.ensures [])
 
 pub turns-preserved-in-Choose : goal.turns-preserved-in-Choose
 turns-preserved-in-Choose c =
-    let h : Handed (taking c.args.t.now c.args.lists.now) c.args.tb.atoms c.turns.it c.turns.reasons c.passes.made c.rules-test.it c.rules-test.reasons c.rules-test.why c.rules-test.out = propagates (goal.at.turns-preserved-in-Choose c).Left-rules in
+    let T = turn_at (goal.at.turns-preserved-in-Choose c).After-decide-turn (propagates (goal.at.turns-preserved-in-Choose c).Left-rules) in
     let len : length c.rules-test.reasons ≡ 256 = long (goal.at.turns-preserved-in-Choose c).Left-rules in
     let e : c.open-it.result.depth ≡ suc c.rules-test.it.depth = ap (λ (s : state.Interpretation). s.level) c.open-it.ensures in
-    let d = (depth c.args.t.now c.args.tb c.args.cycles c.args.lists.now c.args.limit c.requires.0 c.requires.1 c.turns.it c.turns.reasons c.turns.choices c.turns.skips c.turns.most c.turns.invariant.0 c.passes.made c.rules-test.it c.rules-test.reasons c.rules-test.why c.rules-test.out h).0 in
-    let o = opens c.args.t.now c.args.tb c.args.cycles c.args.lists.now c.args.limit c.requires.0 c.requires.1 c.turns.it c.turns.reasons c.turns.choices c.turns.skips c.turns.most c.turns.invariant.0 c.passes.made c.rules-test.it c.rules-test.reasons c.rules-test.why c.rules-test.out h c.greater-most.result c.greater-most.ensures c.in-Choose.a (sym c.in-Choose.is ∙ c.decide-turn.ensures) [] in
+    let d = (depth T).0 in
+    let o = opens T c.in-Choose.a (sym c.in-Choose.is ∙ c.decide-turn.ensures) [] in
     let m = o.2 in
     let v = c.turns.invariant.1 in (
-      subst (Ordered c.args.tb.atoms) (sym c.open-it.ensures) (ordered_open c.args.tb.atoms (view c.rules-test.it) (ordered c.args.t.now c.args.tb c.args.cycles c.args.lists.now c.args.limit c.requires.0 c.requires.1 c.turns.it c.turns.reasons c.turns.choices c.turns.skips c.turns.most c.turns.invariant.0 c.passes.made c.rules-test.it c.rules-test.reasons c.rules-test.why c.rules-test.out h) c.in-Choose.a o.1),
+      subst (Ordered c.args.tb.atoms) (sym c.open-it.ensures) (ordered_open c.args.tb.atoms (view c.rules-test.it) (ordered T) c.in-Choose.a o.1),
       omega arith,
       omega arith,
       simp length-set len,
-      λ s. (let i = c.turns.invariant.4 s in (i.0, on i.1 (chose c.args.t.now c.args.tb c.args.cycles c.args.lists.now c.args.limit c.requires.0 c.requires.1 c.turns.it c.turns.reasons c.turns.choices c.turns.skips c.turns.most c.turns.invariant.0 c.passes.made c.rules-test.it c.rules-test.reasons c.rules-test.why c.rules-test.out h c.greater-most.result c.greater-most.ensures c.in-Choose.a (sym c.in-Choose.is ∙ c.decide-turn.ensures) len _ c.single-own.ensures _ c.open-it.ensures i.0))),
+      λ s. (let i = c.turns.invariant.4 s in (i.0, on i.1 (chose T c.in-Choose.a (sym c.in-Choose.is ∙ c.decide-turn.ensures) len _ c.single-own.ensures _ c.open-it.ensures i.0))),
     )
 
 pub blame-reason-requires : goal.blame-reason-requires
 blame-reason-requires c =
-    let h : Handed (taking c.args.t.now c.args.lists.now) c.args.tb.atoms c.turns.it c.turns.reasons c.passes.made c.rules-test.it c.rules-test.reasons c.rules-test.why c.rules-test.out = propagates (goal.at.blame-reason-requires c).Left-rules in
-    (depth c.args.t.now c.args.tb c.args.cycles c.args.lists.now c.args.limit c.requires.0 c.requires.1 c.turns.it c.turns.reasons c.turns.choices c.turns.skips c.turns.most c.turns.invariant.0 c.passes.made c.rules-test.it c.rules-test.reasons c.rules-test.why c.rules-test.out h).1
+    let T = turn_at (goal.at.blame-reason-requires c).After-decide-turn (propagates (goal.at.blame-reason-requires c).Left-rules) in
+    (depth T).1
 
 pub go_back-back-requires : goal.go_back-back-requires
 go_back-back-requires c =
-    let h : Handed (taking c.args.t.now c.args.lists.now) c.args.tb.atoms c.turns.it c.turns.reasons c.passes.made c.rules-test.it c.rules-test.reasons c.rules-test.why c.rules-test.out = propagates (goal.at.go_back-back-requires c).Left-rules in
-    ((depth c.args.t.now c.args.tb c.args.cycles c.args.lists.now c.args.limit c.requires.0 c.requires.1 c.turns.it c.turns.reasons c.turns.choices c.turns.skips c.turns.most c.turns.invariant.0 c.passes.made c.rules-test.it c.rules-test.reasons c.rules-test.why c.rules-test.out h).1, chosen c.args.t.now c.args.tb c.args.cycles c.args.lists.now c.args.limit c.requires.0 c.requires.1 c.turns.it c.turns.reasons c.turns.choices c.turns.skips c.turns.most c.turns.invariant.0 c.passes.made c.rules-test.it c.rules-test.reasons c.rules-test.why c.rules-test.out h)
+    let T = turn_at (goal.at.go_back-back-requires c).After-decide-turn (propagates (goal.at.go_back-back-requires c).Left-rules) in
+    ((depth T).1, chosen T)
 
 pub overflow_sub-i-in-Level : goal.overflow_sub-i-in-Level
 overflow_sub-i-in-Level c =
-    let h : Handed (taking c.args.t.now c.args.lists.now) c.args.tb.atoms c.turns.it c.turns.reasons c.passes.made c.rules-test.it c.rules-test.reasons c.rules-test.why c.rules-test.out = propagates (goal.at.overflow_sub-i-in-Level c).Left-rules in
-    let x = back c.args.t.now c.args.tb c.args.cycles c.args.lists.now c.args.limit c.requires.0 c.requires.1 c.turns.it c.turns.reasons c.turns.choices c.turns.skips c.turns.most c.turns.invariant.0 c.passes.made c.rules-test.it c.rules-test.reasons c.rules-test.why c.rules-test.out h c.greater-most.result c.greater-most.ensures c.in-Conflict-turn.spent (sym c.in-Conflict-turn.is ∙ c.decide-turn.ensures) c.blame-reason.result c.blame-reason.ensures c.in-Level.m c.in-Level.a c.in-Level.passed (sym c.in-Level.is ∙ c.go_back-back.ensures) in
+    let T = turn_at (goal.at.overflow_sub-i-in-Level c).After-decide-turn (propagates (goal.at.overflow_sub-i-in-Level c).Left-rules) in
+    let x = back T c.in-Conflict-turn.spent (sym c.in-Conflict-turn.is ∙ c.decide-turn.ensures) c.blame-reason.result c.blame-reason.ensures c.in-Level.m c.in-Level.a c.in-Level.passed (sym c.in-Level.is ∙ c.go_back-back.ensures) in
     x.4
 
 pub without-rest-requires : goal.without-rest-requires
 without-rest-requires c =
-    let h : Handed (taking c.args.t.now c.args.lists.now) c.args.tb.atoms c.turns.it c.turns.reasons c.passes.made c.rules-test.it c.rules-test.reasons c.rules-test.why c.rules-test.out = propagates (goal.at.without-rest-requires c).Left-rules in
-    let x = back c.args.t.now c.args.tb c.args.cycles c.args.lists.now c.args.limit c.requires.0 c.requires.1 c.turns.it c.turns.reasons c.turns.choices c.turns.skips c.turns.most c.turns.invariant.0 c.passes.made c.rules-test.it c.rules-test.reasons c.rules-test.why c.rules-test.out h c.greater-most.result c.greater-most.ensures c.in-Conflict-turn.spent (sym c.in-Conflict-turn.is ∙ c.decide-turn.ensures) c.blame-reason.result c.blame-reason.ensures c.in-Level.m c.in-Level.a c.in-Level.passed (sym c.in-Level.is ∙ c.go_back-back.ensures) in
+    let T = turn_at (goal.at.without-rest-requires c).After-decide-turn (propagates (goal.at.without-rest-requires c).Left-rules) in
+    let x = back T c.in-Conflict-turn.spent (sym c.in-Conflict-turn.is ∙ c.decide-turn.ensures) c.blame-reason.result c.blame-reason.ensures c.in-Level.m c.in-Level.a c.in-Level.passed (sym c.in-Level.is ∙ c.go_back-back.ensures) in
     omega (arith, x.0, x.1, x.6)
 
 pub offset_bounds-reasons-i-in-Level : goal.offset_bounds-reasons-i-in-Level
 offset_bounds-reasons-i-in-Level c =
-    let h : Handed (taking c.args.t.now c.args.lists.now) c.args.tb.atoms c.turns.it c.turns.reasons c.passes.made c.rules-test.it c.rules-test.reasons c.rules-test.why c.rules-test.out = propagates (goal.at.offset_bounds-reasons-i-in-Level c).Left-rules in
-    let x = back c.args.t.now c.args.tb c.args.cycles c.args.lists.now c.args.limit c.requires.0 c.requires.1 c.turns.it c.turns.reasons c.turns.choices c.turns.skips c.turns.most c.turns.invariant.0 c.passes.made c.rules-test.it c.rules-test.reasons c.rules-test.why c.rules-test.out h c.greater-most.result c.greater-most.ensures c.in-Conflict-turn.spent (sym c.in-Conflict-turn.is ∙ c.decide-turn.ensures) c.blame-reason.result c.blame-reason.ensures c.in-Level.m c.in-Level.a c.in-Level.passed (sym c.in-Level.is ∙ c.go_back-back.ensures) in
+    let T = turn_at (goal.at.offset_bounds-reasons-i-in-Level c).After-decide-turn (propagates (goal.at.offset_bounds-reasons-i-in-Level c).Left-rules) in
+    let x = back T c.in-Conflict-turn.spent (sym c.in-Conflict-turn.is ∙ c.decide-turn.ensures) c.blame-reason.result c.blame-reason.ensures c.in-Level.m c.in-Level.a c.in-Level.passed (sym c.in-Level.is ∙ c.go_back-back.ensures) in
     let y = x.5 in omega arith
 
 pub bounds-reasons-i-in-Level : goal.bounds-reasons-i-in-Level
 bounds-reasons-i-in-Level c =
-    let h : Handed (taking c.args.t.now c.args.lists.now) c.args.tb.atoms c.turns.it c.turns.reasons c.passes.made c.rules-test.it c.rules-test.reasons c.rules-test.why c.rules-test.out = propagates (goal.at.bounds-reasons-i-in-Level c).Left-rules in
-    let x = back c.args.t.now c.args.tb c.args.cycles c.args.lists.now c.args.limit c.requires.0 c.requires.1 c.turns.it c.turns.reasons c.turns.choices c.turns.skips c.turns.most c.turns.invariant.0 c.passes.made c.rules-test.it c.rules-test.reasons c.rules-test.why c.rules-test.out h c.greater-most.result c.greater-most.ensures c.in-Conflict-turn.spent (sym c.in-Conflict-turn.is ∙ c.decide-turn.ensures) c.blame-reason.result c.blame-reason.ensures c.in-Level.m c.in-Level.a c.in-Level.passed (sym c.in-Level.is ∙ c.go_back-back.ensures) in
+    let T = turn_at (goal.at.bounds-reasons-i-in-Level c).After-decide-turn (propagates (goal.at.bounds-reasons-i-in-Level c).Left-rules) in
+    let x = back T c.in-Conflict-turn.spent (sym c.in-Conflict-turn.is ∙ c.decide-turn.ensures) c.blame-reason.result c.blame-reason.ensures c.in-Level.m c.in-Level.a c.in-Level.passed (sym c.in-Level.is ∙ c.go_back-back.ensures) in
     omega (arith, x.4, x.5)
 
 pub overflow_cast-m : goal.overflow_cast-m
 overflow_cast-m c =
-    let h : Handed (taking c.args.t.now c.args.lists.now) c.args.tb.atoms c.turns.it c.turns.reasons c.passes.made c.rules-test.it c.rules-test.reasons c.rules-test.why c.rules-test.out = propagates (goal.at.overflow_cast-m c).Left-rules in
-    let x = back c.args.t.now c.args.tb c.args.cycles c.args.lists.now c.args.limit c.requires.0 c.requires.1 c.turns.it c.turns.reasons c.turns.choices c.turns.skips c.turns.most c.turns.invariant.0 c.passes.made c.rules-test.it c.rules-test.reasons c.rules-test.why c.rules-test.out h c.greater-most.result c.greater-most.ensures c.in-Conflict-turn.spent (sym c.in-Conflict-turn.is ∙ c.decide-turn.ensures) c.blame-reason.result c.blame-reason.ensures c.in-Level.m c.in-Level.a c.in-Level.passed (sym c.in-Level.is ∙ c.go_back-back.ensures) in
+    let T = turn_at (goal.at.overflow_cast-m c).After-decide-turn (propagates (goal.at.overflow_cast-m c).Left-rules) in
+    let x = back T c.in-Conflict-turn.spent (sym c.in-Conflict-turn.is ∙ c.decide-turn.ensures) c.blame-reason.result c.blame-reason.ensures c.in-Level.m c.in-Level.a c.in-Level.passed (sym c.in-Level.is ∙ c.go_back-back.ensures) in
     omega (arith, x.1, x.6)
 
 pub jump-it-requires : goal.jump-it-requires
 jump-it-requires c =
-    let h : Handed (taking c.args.t.now c.args.lists.now) c.args.tb.atoms c.turns.it c.turns.reasons c.passes.made c.rules-test.it c.rules-test.reasons c.rules-test.why c.rules-test.out = propagates (goal.at.jump-it-requires c).Left-rules in
-    let x = back c.args.t.now c.args.tb c.args.cycles c.args.lists.now c.args.limit c.requires.0 c.requires.1 c.turns.it c.turns.reasons c.turns.choices c.turns.skips c.turns.most c.turns.invariant.0 c.passes.made c.rules-test.it c.rules-test.reasons c.rules-test.why c.rules-test.out h c.greater-most.result c.greater-most.ensures c.in-Conflict-turn.spent (sym c.in-Conflict-turn.is ∙ c.decide-turn.ensures) c.blame-reason.result c.blame-reason.ensures c.in-Level.m c.in-Level.a c.in-Level.passed (sym c.in-Level.is ∙ c.go_back-back.ensures) in
+    let T = turn_at (goal.at.jump-it-requires c).After-decide-turn (propagates (goal.at.jump-it-requires c).Left-rules) in
+    let x = back T c.in-Conflict-turn.spent (sym c.in-Conflict-turn.is ∙ c.decide-turn.ensures) c.blame-reason.result c.blame-reason.ensures c.in-Level.m c.in-Level.a c.in-Level.passed (sym c.in-Level.is ∙ c.go_back-back.ensures) in
     let e = x.2 in let lo = x.4 in let hi = x.5 in (x.0, x.1, x.6, omega (arith, e, lo), omega (arith, e, hi))
 
 pub overflow_add-skips : goal.overflow_add-skips
 overflow_add-skips c =
-    let h : Handed (taking c.args.t.now c.args.lists.now) c.args.tb.atoms c.turns.it c.turns.reasons c.passes.made c.rules-test.it c.rules-test.reasons c.rules-test.why c.rules-test.out = propagates (goal.at.overflow_add-skips c).Left-rules in
-    let e = passed c.args.t.now c.args.tb c.args.cycles c.args.lists.now c.args.limit c.requires.0 c.requires.1 c.turns.it c.turns.reasons c.turns.choices c.turns.skips c.turns.most c.turns.invariant.0 c.passes.made c.rules-test.it c.rules-test.reasons c.rules-test.why c.rules-test.out h c.greater-most.result c.greater-most.ensures c.in-Conflict-turn.spent (sym c.in-Conflict-turn.is ∙ c.decide-turn.ensures) c.blame-reason.result c.blame-reason.ensures _ (sym c.in-End.is ∙ c.go_back-back.ensures) in
-    let d = (depth c.args.t.now c.args.tb c.args.cycles c.args.lists.now c.args.limit c.requires.0 c.requires.1 c.turns.it c.turns.reasons c.turns.choices c.turns.skips c.turns.most c.turns.invariant.0 c.passes.made c.rules-test.it c.rules-test.reasons c.rules-test.why c.rules-test.out h).0 in
+    let T = turn_at (goal.at.overflow_add-skips c).After-decide-turn (propagates (goal.at.overflow_add-skips c).Left-rules) in
+    let e = passed T c.in-Conflict-turn.spent (sym c.in-Conflict-turn.is ∙ c.decide-turn.ensures) c.blame-reason.result c.blame-reason.ensures _ (sym c.in-End.is ∙ c.go_back-back.ensures) in
+    let d = (depth T).0 in
     let v = c.turns.invariant.1 in
     let w = c.turns.invariant.2 in
     omega (arith, e, d, v, w, c.ranges.limit)
 
 pub overflow_add-skips-in-Level : goal.overflow_add-skips-in-Level
 overflow_add-skips-in-Level c =
-    let h : Handed (taking c.args.t.now c.args.lists.now) c.args.tb.atoms c.turns.it c.turns.reasons c.passes.made c.rules-test.it c.rules-test.reasons c.rules-test.why c.rules-test.out = propagates (goal.at.overflow_add-skips-in-Level c).Left-rules in
-    let e = (back c.args.t.now c.args.tb c.args.cycles c.args.lists.now c.args.limit c.requires.0 c.requires.1 c.turns.it c.turns.reasons c.turns.choices c.turns.skips c.turns.most c.turns.invariant.0 c.passes.made c.rules-test.it c.rules-test.reasons c.rules-test.why c.rules-test.out h c.greater-most.result c.greater-most.ensures c.in-Conflict-turn.spent (sym c.in-Conflict-turn.is ∙ c.decide-turn.ensures) c.blame-reason.result c.blame-reason.ensures c.in-Level.m c.in-Level.a c.in-Level.passed (sym c.in-Level.is ∙ c.go_back-back.ensures)).3 in
-    let d = (depth c.args.t.now c.args.tb c.args.cycles c.args.lists.now c.args.limit c.requires.0 c.requires.1 c.turns.it c.turns.reasons c.turns.choices c.turns.skips c.turns.most c.turns.invariant.0 c.passes.made c.rules-test.it c.rules-test.reasons c.rules-test.why c.rules-test.out h).0 in
+    let T = turn_at (goal.at.overflow_add-skips-in-Level c).After-decide-turn (propagates (goal.at.overflow_add-skips-in-Level c).Left-rules) in
+    let e = (back T c.in-Conflict-turn.spent (sym c.in-Conflict-turn.is ∙ c.decide-turn.ensures) c.blame-reason.result c.blame-reason.ensures c.in-Level.m c.in-Level.a c.in-Level.passed (sym c.in-Level.is ∙ c.go_back-back.ensures)).3 in
+    let d = (depth T).0 in
     let v = c.turns.invariant.1 in
     let w = c.turns.invariant.2 in
     omega (arith, e, d, v, w, c.ranges.limit)
@@ -473,26 +499,26 @@ overflow_add-skips-in-Level c =
 pub turns-smaller : goal.turns-smaller
 unfolding meas
 turns-smaller c =
-    let h : Handed (taking c.args.t.now c.args.lists.now) c.args.tb.atoms c.turns.it c.turns.reasons c.passes.made c.rules-test.it c.rules-test.reasons c.rules-test.why c.rules-test.out = propagates (goal.at.turns-smaller c).Left-rules in
+    let T = turn_at (goal.at.turns-smaller c).After-decide-turn (propagates (goal.at.turns-smaller c).Left-rules) in
     let len : length c.rules-test.reasons ≡ 256 = long (goal.at.turns-smaller c).Left-rules in
-    turn_less (problem c.args.cycles c.args.t.now c.args.tb c.args.lists.now) jump c.args.limit _ _ (jumps c.args.t.now c.args.tb c.args.cycles c.args.lists.now c.args.limit c.requires.0 c.requires.1 c.turns.it c.turns.reasons c.turns.choices c.turns.skips c.turns.most c.turns.invariant.0 c.passes.made c.rules-test.it c.rules-test.reasons c.rules-test.why c.rules-test.out h c.greater-most.result c.greater-most.ensures c.in-Conflict-turn.spent (sym c.in-Conflict-turn.is ∙ c.decide-turn.ensures) c.blame-reason.result c.blame-reason.ensures c.in-Level.m c.in-Level.a c.in-Level.passed (sym c.in-Level.is ∙ c.go_back-back.ensures) len _ c.without-rest.ensures _ c.jump-it.ensures [])
+    turn_less (problem c.args.cycles c.args.t.now c.args.tb c.args.lists.now) jump c.args.limit _ _ (jumps T c.in-Conflict-turn.spent (sym c.in-Conflict-turn.is ∙ c.decide-turn.ensures) c.blame-reason.result c.blame-reason.ensures c.in-Level.m c.in-Level.a c.in-Level.passed (sym c.in-Level.is ∙ c.go_back-back.ensures) len _ c.without-rest.ensures _ c.jump-it.ensures [])
 
 pub turns-preserved : goal.turns-preserved
 turns-preserved c =
-    let h : Handed (taking c.args.t.now c.args.lists.now) c.args.tb.atoms c.turns.it c.turns.reasons c.passes.made c.rules-test.it c.rules-test.reasons c.rules-test.why c.rules-test.out = propagates (goal.at.turns-preserved c).Left-rules in
+    let T = turn_at (goal.at.turns-preserved c).After-decide-turn (propagates (goal.at.turns-preserved c).Left-rules) in
     let len : length c.rules-test.reasons ≡ 256 = long (goal.at.turns-preserved c).Left-rules in
     let q : c.jump-it.result.depth ≡ c.in-Level.m - 1 = ap (λ (s : state.Interpretation). s.level) c.jump-it.ensures in
-    let d = (depth c.args.t.now c.args.tb c.args.cycles c.args.lists.now c.args.limit c.requires.0 c.requires.1 c.turns.it c.turns.reasons c.turns.choices c.turns.skips c.turns.most c.turns.invariant.0 c.passes.made c.rules-test.it c.rules-test.reasons c.rules-test.why c.rules-test.out h).0 in
-    let x = back c.args.t.now c.args.tb c.args.cycles c.args.lists.now c.args.limit c.requires.0 c.requires.1 c.turns.it c.turns.reasons c.turns.choices c.turns.skips c.turns.most c.turns.invariant.0 c.passes.made c.rules-test.it c.rules-test.reasons c.rules-test.why c.rules-test.out h c.greater-most.result c.greater-most.ensures c.in-Conflict-turn.spent (sym c.in-Conflict-turn.is ∙ c.decide-turn.ensures) c.blame-reason.result c.blame-reason.ensures c.in-Level.m c.in-Level.a c.in-Level.passed (sym c.in-Level.is ∙ c.go_back-back.ensures) in
+    let d = (depth T).0 in
+    let x = back T c.in-Conflict-turn.spent (sym c.in-Conflict-turn.is ∙ c.decide-turn.ensures) c.blame-reason.result c.blame-reason.ensures c.in-Level.m c.in-Level.a c.in-Level.passed (sym c.in-Level.is ∙ c.go_back-back.ensures) in
     let lo = x.0 in
     let hi = x.1 in
     let sk = x.3 in
-    let k = spends c.args.t.now c.args.tb c.args.cycles c.args.lists.now c.args.limit c.requires.0 c.requires.1 c.turns.it c.turns.reasons c.turns.choices c.turns.skips c.turns.most c.turns.invariant.0 c.passes.made c.rules-test.it c.rules-test.reasons c.rules-test.why c.rules-test.out h c.greater-most.result c.greater-most.ensures _ (sym c.in-Conflict-turn.is ∙ c.decide-turn.ensures) in
+    let k = spends T _ (sym c.in-Conflict-turn.is ∙ c.decide-turn.ensures) in
     let v = c.turns.invariant.1 in
     let w = c.turns.invariant.2 in (
-      subst (Ordered c.args.tb.atoms) (sym c.jump-it.ensures) (ordered_jump c.args.tb.atoms (view c.rules-test.it) (ordered c.args.t.now c.args.tb c.args.cycles c.args.lists.now c.args.limit c.requires.0 c.requires.1 c.turns.it c.turns.reasons c.turns.choices c.turns.skips c.turns.most c.turns.invariant.0 c.passes.made c.rules-test.it c.rules-test.reasons c.rules-test.why c.rules-test.out h) (c.in-Level.m - 1) (omega (arith, lo, hi))),
+      subst (Ordered c.args.tb.atoms) (sym c.jump-it.ensures) (ordered_jump c.args.tb.atoms (view c.rules-test.it) (ordered T) (c.in-Level.m - 1) (omega (arith, lo, hi))),
       omega (arith, q, d, lo, hi, sk, v),
       omega (arith, k, w),
       simp length-set len,
-      λ s. (let i = c.turns.invariant.4 s in (over c.args.t.now c.args.tb c.args.cycles c.args.lists.now c.args.limit c.requires.0 c.requires.1 c.turns.it c.turns.reasons c.turns.choices c.turns.skips c.turns.most c.turns.invariant.0 c.passes.made c.rules-test.it c.rules-test.reasons c.rules-test.why c.rules-test.out h c.greater-most.result c.greater-most.ensures c.in-Conflict-turn.spent (sym c.in-Conflict-turn.is ∙ c.decide-turn.ensures) c.blame-reason.result c.blame-reason.ensures c.in-Level.m c.in-Level.a c.in-Level.passed (sym c.in-Level.is ∙ c.go_back-back.ensures) i.0, on i.1 (jumps c.args.t.now c.args.tb c.args.cycles c.args.lists.now c.args.limit c.requires.0 c.requires.1 c.turns.it c.turns.reasons c.turns.choices c.turns.skips c.turns.most c.turns.invariant.0 c.passes.made c.rules-test.it c.rules-test.reasons c.rules-test.why c.rules-test.out h c.greater-most.result c.greater-most.ensures c.in-Conflict-turn.spent (sym c.in-Conflict-turn.is ∙ c.decide-turn.ensures) c.blame-reason.result c.blame-reason.ensures c.in-Level.m c.in-Level.a c.in-Level.passed (sym c.in-Level.is ∙ c.go_back-back.ensures) len _ c.without-rest.ensures _ c.jump-it.ensures i.0))),
+      λ s. (let i = c.turns.invariant.4 s in (over T c.in-Conflict-turn.spent (sym c.in-Conflict-turn.is ∙ c.decide-turn.ensures) c.blame-reason.result c.blame-reason.ensures c.in-Level.m c.in-Level.a c.in-Level.passed (sym c.in-Level.is ∙ c.go_back-back.ensures) i.0, on i.1 (jumps T c.in-Conflict-turn.spent (sym c.in-Conflict-turn.is ∙ c.decide-turn.ensures) c.blame-reason.result c.blame-reason.ensures c.in-Level.m c.in-Level.a c.in-Level.passed (sym c.in-Level.is ∙ c.go_back-back.ensures) len _ c.without-rest.ensures _ c.jump-it.ensures i.0))),
     )
