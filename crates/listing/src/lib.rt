@@ -45,12 +45,7 @@ fn row_byte(values: &[u8; 256], n: usize, i: usize) -> u8
     requires { i < 256 }
     ensures { result ≡ row_byte (true_atoms n (valued values.now)) i }
 {
-    if i < n {
-        if values[i] == 1 {
-            return 1;
-        }
-    }
-    0
+    u8::from(i < n && values[i] == 1)
 }
 
 // "256-byte rows, rest bytes 0": the row that begins at `at` is written whole; no other byte is.
@@ -58,12 +53,8 @@ fn write_row(values: &[u8; 256], n: usize, rows: &mut [u8], at: usize)
     requires { at + 256 ≤ length rows.old }
     ensures { rows.new ≡ row_put (true_atoms n (valued values.now)) at 256 rows.old }
 {
-    let mut i: usize = 0;
-    while i < ROW {
-        let b = row_byte(values, n, i);
-        let place = at + i;
-        rows[place] = b;
-        i += 1;
+    for i in 0..ROW {
+        rows[at + i] = row_byte(values, n, i);
     }
 }
 
