@@ -34,6 +34,7 @@ pub fn with_atoms(l: &[i32], set: [u64; 4]) -> [u64; 4]
 }
 
 // The atoms of pairs of value and atom joined to a set.
+// Stays: it differs from `with_atoms` in the words that it takes, and one function for both would be told which by a step and an offset.
 pub fn with_pairs(l: &[i32], set: [u64; 4]) -> [u64; 4]
     requires { Elements 256 l.now }
     ensures { row result ≡ union (elements l.now) (row set) }

@@ -1,10 +1,9 @@
 // Which of the atoms that p reaches reach p in turn: with p, a circle. No list has the rules by their bodies, so the list of a visit is walked until a
 // walk adds nothing, from its last atom to its first, since an atom that was found late is more often near an arc back. Meaning: `specs/Visits.antt`.
-ghost use Rattle.std.specs.Prelude.{◌↔◌, ℕ, ◌+◌, ◌≤◌, ◌<◌, ◌≡◌, length, get_or};
+ghost use Rattle.std.specs.Prelude.{◌≡◌, ◌↔◌, ℕ, ◌≤◌, ◌<◌, length, get_or};
 ghost use Rattle.meaning.specs.Lists.{Is};
 ghost use Rattle.layout.specs.Layout.{program_of, Laid};
 ghost use Rattle.heads.specs.Heads.{Listed};
-ghost use Rattle.levels.specs.Levels.{union, only};
 ghost use Rattle.levels.specs.View.{row};
 ghost use Rattle.reach.specs.Arcs.{arcs_of};
 ghost use Rattle.reach.specs.Visits.{size, Reached, Led, Walked, Circle};
@@ -13,20 +12,6 @@ use crate::marks::Marked;
 use crate::{arcs, marks, touching, visits};
 use heads::Lists;
 use layout::Table;
-
-// One more atom marked.
-pub fn more(found: Marked, q: usize) -> Marked
-    requires { (1 ≤ q) × (q ≤ 256) × (found.count ≤ 256) }
-    ensures { (row result.marks ≡ union (only q) (row found.marks)) × (result.count ≡ found.count + 1) }
-{
-    let marks = found.marks;
-    let next = levels::with(marks, q);
-    let count = found.count + 1;
-    Marked {
-        marks: next,
-        count: count,
-    }
-}
 
 // Atom q marked, if an arc goes from it to a marked atom. Where a positive body atom is marked, that is seen first.
 pub fn led(t: &[i32], tb: Table, lists: &Lists, added: bool, q: usize, found: Marked) -> Marked
@@ -38,14 +23,14 @@ pub fn led(t: &[i32], tb: Table, lists: &Lists, added: bool, q: usize, found: Ma
         return found;
     }
     if touching::touches(t, tb, lists, q, marks, true) {
-        return more(found, q);
+        return marks::more(found, q);
     }
     let to = arcs::from_atom(t, tb, lists, added, q);
     let n = tb.atoms;
     if !marks::meets(to, marks, n) {
         return found;
     }
-    more(found, q)
+    marks::more(found, q)
 }
 
 // One walk over the atoms of a list.

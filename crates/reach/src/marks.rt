@@ -1,7 +1,7 @@
 // Atoms that are marked, and the list on which each marked atom stands once, in the order in which they were marked. Meaning: `specs/Visits.antt`.
-ghost use Rattle.std.specs.Prelude.{◌≡◌, true, ◌&&◌, ℕ, suc, ◌≤◌, ◌<◌, length, get_or};
+ghost use Rattle.std.specs.Prelude.{◌≡◌, true, ◌&&◌, ℕ, suc, ◌+◌, ◌≤◌, ◌<◌, length, get_or};
 ghost use Rattle.meaning.specs.Lists.{Is};
-ghost use Rattle.levels.specs.Levels.{only};
+ghost use Rattle.levels.specs.Levels.{union, only};
 ghost use Rattle.levels.specs.View.{row};
 ghost use Rattle.reach.specs.Visits.{Part, Apart, Meeting, within, Queue, Put};
 
@@ -10,6 +10,19 @@ ghost use Rattle.reach.specs.Visits.{Part, Apart, Meeting, within, Queue, Put};
 pub struct Marked {
     pub marks: [u64; 4],
     pub count: usize,
+}
+
+// One more atom marked.
+pub fn more(found: Marked, q: usize) -> Marked
+    requires { (1 ≤ q) × (q ≤ 256) × (found.count ≤ 256) }
+    ensures { (row result.marks ≡ union (only q) (row found.marks)) × (result.count ≡ found.count + 1) }
+{
+    let marks = found.marks;
+    let next = levels::with(marks, q);
+    Marked {
+        marks: next,
+        count: found.count + 1,
+    }
 }
 
 // Whether all atoms of a set surely lie in another one.
@@ -79,12 +92,7 @@ pub fn put_one(to: [u64; 4], l: usize, seen: Marked, list: &mut [u8; 256]) -> Ma
     let end = seen.count;
     let place = l - 1;
     list[end] = place as u8;
-    let next = levels::with(marks, l);
-    let count = end + 1;
-    Marked {
-        marks: next,
-        count: count,
-    }
+    more(seen, l)
 }
 
 // The atoms 1 to n of a set that are not yet marked, marked and put at the end of the list. The atoms of a word that is 0 are passed over together.
