@@ -21,16 +21,15 @@ use heads::Lists;
 use interpretation::Interpretation;
 use judging::Buffer;
 use layout::Table;
-use results::{Ask, Checked, Refusal, Solved};
+use results::{Ask, Refusal, Solved};
 use rounds::Why;
-use table::Fault;
 
 pub mod plans;
 
 // What comes back from solving: the result, and for each atom why it is in the plan, atom p's at index p - 1.
 #[derive(Clone, Copy)]
 pub struct Solution {
-    pub solved: Solved,
+    pub solved: Result<Solved, Refusal>,
     pub whys: [Why; 256],
 }
 
@@ -48,23 +47,22 @@ pub fn solve_with(
         × ExplainingBy ask.cycles words.now (Plan (length plan.old)) plan.new result.solved result.whys }
 {
     let cycles = ask.cycles;
-    let room = plan.len();
-    let judged = judging::judge_in(words, cycles, Buffer::Plan(room), lists);
-    let fault = judged.fault;
-    match fault {
-        Fault::Refused(f) => {
-            let solved = Solved::Refused(f);
+    match judging::judge_in(words, cycles, Buffer::Plan(plan.len()), lists) {
+        Err(f) => {
             let whys = explaining::nothing();
-            Solution { solved, whys }
+            Solution {
+                solved: Err(f),
+                whys,
+            }
         }
-        Fault::Nothing => {
-            let tb = judged.table;
-            let limit = ask.limit;
-            let found = jumping::search(words, tb, cycles, lists, limit, candidates);
-            let atoms = tb.atoms;
-            let solved = plans::report(found, atoms, plan);
+        Ok(tb) => {
+            let found = jumping::search(words, tb, cycles, lists, ask.limit, candidates);
+            let solved = plans::report(found, tb.atoms, plan);
             let whys = whys_by(words, tb, cycles, solved, found.it, candidates);
-            Solution { solved, whys }
+            Solution {
+                solved: Ok(solved),
+                whys,
+            }
         }
     }
 }
@@ -131,23 +129,15 @@ pub fn approve_with(
     plan: &[u8],
     lists: &mut Lists,
     candidates: &mut Candidates,
-) -> Checked
+) -> Result<bool, Refusal>
     ensures { ApprovingBy cycles words.now plan.now result }
 {
-    let room = plan.len();
-    let judged = judging::judge_in(words, cycles, Buffer::Plan(room), lists);
-    let fault = judged.fault;
-    match fault {
-        Fault::Refused(f) => Checked::Refused(f),
-        Fault::Nothing => {
-            let tb = judged.table;
-            check(words, tb, cycles, lists, plan, candidates)
-        }
-    }
+    let tb = judging::judge_in(words, cycles, Buffer::Plan(plan.len()), lists)?;
+    check(words, tb, cycles, lists, plan, candidates)
 }
 
 // The same with memory of its own.
-pub fn approve(words: &[i32], cycles: bool, plan: &[u8]) -> Checked
+pub fn approve(words: &[i32], cycles: bool, plan: &[u8]) -> Result<bool, Refusal>
     ensures { ApprovingBy cycles words.now plan.now result }
 {
     let mut lists = [0u16; heads::SIZE];
@@ -182,18 +172,14 @@ fn check(
     lists: &Lists,
     plan: &[u8],
     candidates: &mut Candidates,
-) -> Checked
+) -> Result<bool, Refusal>
     requires { Laid words.now tb × Whole words.now tb lists.now × (256 ≤ length plan.now) }
     ensures { result ≡ checked_by (bad_from plan.now 0 tb.atoms) (model (program_of words.now tb) (plan_atoms tb.atoms plan.now)) (passes_by cycles (program_of words.now tb) tb.atoms (plan_atoms tb.atoms plan.now)) }
 {
-    let n = tb.atoms;
-    if let Some(i) = plans::first_bad(plan, n) {
-        return Checked::Refused(Refusal::PlanByte(i));
+    if let Some(i) = plans::first_bad(plan, tb.atoms) {
+        return Err(Refusal::PlanByte(i));
     }
-    let values = plans::values_of(plan, n);
-    if foundation::is_model(words, tb, &values) && passes(words, tb, cycles, lists, &values, candidates)
-    {
-        return Checked::Yes;
-    }
-    Checked::No
+    let values = plans::values_of(plan, tb.atoms);
+    let model = foundation::is_model(words, tb, &values);
+    Ok(model && passes(words, tb, cycles, lists, &values, candidates))
 }
