@@ -1,14 +1,17 @@
 -- Walks over a list, over pairs and over the rules of an accepted table, each to the first that passes a test, and the lowest rule that does. Assumes nothing.
 use mathlib.Core.Path.{◌≡◌, refl, sym, ap, ◌∙◌, subst}
 use mathlib.Core.Bool.{Bool, true, false, ◌||◌}
-use mathlib.Core.List.{List, [], ◌∷◌}
+use mathlib.Core.List.{List, [], ◌∷◌, map}
 use Prim.Native.Nat.{ℕ, suc, ◌+◌, ◌-◌, ◌≤◌, ◌<◌}
 use native.Mathlib.Omega.{arith}
-use lib.IntN.{ℤ}
+use lib.IntN.{ℤ, pos, nat_abs}
+use lib.ListN.{length, get_or}
+use Rattle.std.proofs.lemmas.List.{get_or_default}
+use Rattle.std.specs.List.{list_any}
 use Rattle.std.specs.Prelude.{Some, None}
 use Rattle.meaning.specs.Lists.{any}
 use Rattle.meaning.specs.Program.{Rule, Program}
-use Rattle.layout.specs.Layout.{rule_at, rules_from, past_rule, RuleLies, RulesLie}
+use Rattle.layout.specs.Layout.{Members, rule_at, rules_from, past_rule, RuleLies, RulesLie}
 use Rattle.layout.proofs.Rounds.{rules_on, rules_none, lies_on}
 use Rattle.depend.specs.Cycles.{or_later, lowest}
 
@@ -16,6 +19,17 @@ use Rattle.depend.specs.Cycles.{or_later, lowest}
 
 pub walk_on : {x z b : Bool} (c y : Bool) → x ≡ b || y → x ≡ z → b ≡ c → c || y ≡ z
 walk_on c y e i h = sym (e ∙ ap (λ (a : Bool). a || y) h) ∙ i
+
+-- ---- a list of words of which one passes
+
+module _ {A : Type 0} (f : A → Bool) (g : ℤ → A) where
+  pub any_map : (l : List ℤ) → list_any (λ (w : ℤ). f (g w)) l ≡ any f (map g l)
+  any_map [] = refl
+  any_map (w ∷ l) = ap (λ (b : Bool). f (g w) || b) (any_map l)
+
+-- each of them is in range
+pub member_of : (top : ℕ) (l : List ℤ) → Members top l → (w : ℤ) (k : ℕ) → k < length l → w ≡ get_or l k w → (1 ≤ nat_abs w) × (nat_abs w ≤ top)
+member_of top l m w k h e = subst (λ (v : ℤ). (1 ≤ nat_abs v) × (nat_abs v ≤ top)) (sym (e ∙ get_or_default l k w (pos 0) h)) (m k h)
 
 -- ---- rules, of which k of n are passed
 

@@ -116,12 +116,7 @@ pub fn crosses(names: &Names, head: &[i32], p: usize) -> bool
     requires { Members 256 head.now × (1 ≤ p) × (p ≤ 256) }
     ensures { result ≡ any (λ q. crossing (alike names.now) p q) (atoms head.now) }
 {
-    for q in head {
-        if both_ways(names, p, words::size(*q)) {
-            return true;
-        }
-    }
-    false
+    head.iter().any(|q| both_ways(names, p, words::size(*q)))
 }
 
 // Whether two atoms of a head do.
@@ -129,12 +124,7 @@ pub fn crossed(names: &Names, head: &[i32]) -> bool
     requires { Members 256 head.now }
     ensures { result ≡ crossed (alike names.now) (atoms head.now) }
 {
-    for p in head {
-        if crosses(names, head, words::size(*p)) {
-            return true;
-        }
-    }
-    false
+    head.iter().any(|p| crosses(names, head, words::size(*p)))
 }
 
 // Whether the atom of one of the pairs reaches p.
@@ -155,12 +145,10 @@ pub fn literal_reaches(t: &[i32], tb: Table, names: &Names, l: &[i32], p: usize)
     requires { Laid t.now tb × Members tb.aggregates l.now × (1 ≤ p) × (p ≤ 256) }
     ensures { result ≡ any (λ u. returning (alike names.now) p u.aggregate.elements) (map (literal_of t.now) l.now) }
 {
-    for j in l {
-        if element_reaches(names, arcs::elements_of(t, tb, words::size(*j)), p) {
-            return true;
-        }
-    }
-    false
+    l.iter().any(|j| {
+        let pairs = arcs::elements_of(t, tb, words::size(*j));
+        element_reaches(names, pairs, p)
+    })
 }
 
 // Whether one of them reaches an atom of a head.
@@ -168,12 +156,8 @@ pub fn head_reached(t: &[i32], tb: Table, names: &Names, head: &[i32], l: &[i32]
     requires { Laid t.now tb × Members 256 head.now × Members tb.aggregates l.now }
     ensures { result ≡ returned (alike names.now) (atoms head.now) (map (literal_of t.now) l.now) }
 {
-    for p in head {
-        if literal_reaches(t, tb, names, l, words::size(*p)) {
-            return true;
-        }
-    }
-    false
+    head.iter()
+        .any(|p| literal_reaches(t, tb, names, l, words::size(*p)))
 }
 
 // Whether the rule that begins at `at` has two head atoms that reach each other, or where `added` adds an arc that lies on a cycle.

@@ -1,39 +1,27 @@
--- `depend::cycles::crosses` meets its contract. Assumes nothing.
+-- `depend::cycles::crosses` meets its contract: it asks the members of the list, each of which is in range. Assumes nothing.
 use borrow.Author.Rules.{rules}
-use native.Mathlib.Omega.{arith}
-use mathlib.Core.Path.{◌≡◌, sym, ap, ◌∙◌}
-use mathlib.Core.Bool.{true, false}
-use Prim.Native.Nat.{ℕ}
-use lib.IntN.{pos, nat_abs}
-use lib.ListN.{get_or}
+use mathlib.Core.Path.{◌∙◌}
+use lib.IntN.{ℤ, nat_abs}
+use Rattle.std.proofs.lemmas.Iterator.{YieldsList-from_slice}
+use Rattle.std.proofs.lemmas.Iterator.Adapters.{serves_from_places}
+use Rattle.std.proofs.lemmas.Iterator.Search.{any_from_yields_List}
 use Rattle.depend.specs.Circles.{alike}
 use Rattle.depend.specs.Cycles.{crossing}
-use Rattle.reach.proofs.Lists.{any_on, any_end}
-use Rattle.depend.proofs.Walk.{walk_on}
+use Rattle.depend.proofs.Walk.{any_map, member_of}
 use Rattle.depend.proofs.cycles.crosses.Goals as goal
 
-pub both_ways-requires : goal.both_ways-requires
-both_ways-requires c =
-    let i = c.loop-q.q-index in
-    let e : c.size.result ≡ nat_abs (get_or c.args.head.now i (pos 0)) = search rules in
-    let m = c.requires.0 i (omega arith) in
-    (c.requires.1, c.requires.2, rw e m.0, rw e m.1)
-
-pub returns-then-both_ways : goal.returns-then-both_ways
-returns-then-both_ways c =
-    let a = c.args in
-    let i = c.loop-q.q-index in
-    let e : c.size.result ≡ nat_abs (get_or a.head.now i (pos 0)) = search rules in
-    walk_on true _ (any_on a.head.now i (λ (q : ℕ). crossing (alike a.names.now) a.p q) nat_abs (omega arith)) c.loop-q.invariant (sym (c.both_ways.ensures ∙ ap (λ (q : ℕ). crossing (alike a.names.now) a.p q) e) ∙ c.if-both_ways.true)
-
-pub loop-q-preserved : goal.loop-q-preserved
-loop-q-preserved c =
-    let a = c.args in
-    let i = c.loop-q.q-index in
-    let e : c.size.result ≡ nat_abs (get_or a.head.now i (pos 0)) = search rules in
-    walk_on false _ (any_on a.head.now i (λ (q : ℕ). crossing (alike a.names.now) a.p q) nat_abs (omega arith)) c.loop-q.invariant (sym (c.both_ways.ensures ∙ ap (λ (q : ℕ). crossing (alike a.names.now) a.p q) e) ∙ c.if-both_ways.false)
+pub any-requires-clause-callable : goal.any-requires-clause-callable
+any-requires-clause-callable c =
+    let l = c.args.head.now in
+    serves_from_places (YieldsList-from_slice l cc) (λ x q r. search rules)
+    (λ x k h e.
+    let m = member_of 256 l c.requires.0 x.now k h e in
+    let low = m.0 in
+    let high = m.1 in
+    search rules)
 
 pub returns : goal.returns
 returns c =
     let a = c.args in
-    sym (any_end a.head.now c.loop-q.q-index (λ (q : ℕ). crossing (alike a.names.now) a.p q) nat_abs (omega arith)) ∙ c.loop-q.invariant
+    any_from_yields_List (λ (w : ℤ). crossing (alike a.names.now) a.p (nat_abs w)) _ _ _ c.any.ensures.ran (YieldsList-from_slice a.head.now cc) (λ x b q k. search rules)
+    ∙ any_map (crossing (alike a.names.now) a.p) nat_abs a.head.now

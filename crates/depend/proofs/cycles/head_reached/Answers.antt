@@ -1,37 +1,37 @@
--- `depend::cycles::head_reached` meets its contract. Assumes nothing.
+-- `depend::cycles::head_reached` meets its contract: it asks the members of the list, each of which is in range. Assumes nothing.
 use borrow.Author.Rules.{rules}
-use native.Mathlib.Omega.{arith}
-use mathlib.Core.Path.{◌≡◌, sym, ap, ◌∙◌}
-use mathlib.Core.Bool.{true, false}
-use lib.IntN.{pos, nat_abs}
-use lib.ListN.{get_or}
-use Rattle.depend.proofs.cycles.head_reached.Invariants.{passes}
-use Rattle.reach.proofs.Lists.{any_on, any_end}
-use Rattle.depend.proofs.Walk.{walk_on}
+use mathlib.Core.Path.{◌∙◌}
+use Prim.Native.Nat.{ℕ}
+use lib.IntN.{ℤ, nat_abs}
+use Rattle.std.proofs.lemmas.Iterator.{YieldsList-from_slice}
+use Rattle.std.proofs.lemmas.Iterator.Adapters.{serves_from_places}
+use Rattle.std.proofs.lemmas.Iterator.Search.{any_from_yields_List}
+use mathlib.Core.Bool.{Bool}
+use mathlib.Core.List.{List, map}
+use Rattle.meaning.specs.Lists.{any}
+use Rattle.meaning.specs.Program.{Literal}
+use Rattle.layout.specs.Layout.{literal_of}
+use Rattle.depend.specs.Circles.{alike}
+use Rattle.depend.specs.Cycles.{returning}
+use Rattle.depend.proofs.Walk.{any_map, member_of}
 use Rattle.depend.proofs.cycles.head_reached.Goals as goal
 
-pub literal_reaches-requires : goal.literal_reaches-requires
-literal_reaches-requires c =
-    let i = c.loop-p.p-index in
-    let e : c.size.result ≡ nat_abs (get_or c.args.head.now i (pos 0)) = search rules in
-    let m = c.requires.1 i (omega arith) in
-    (c.requires.0, c.requires.2, rw e m.0, rw e m.1)
+-- the test of a head atom
+abbrev passes : List ℕ → List ℤ → List ℤ → ℕ → Bool
+passes names t l = λ p. any (λ (u : Literal). returning (alike names) p u.aggregate.elements) (map (literal_of t) l)
 
-pub returns-then-literal_reaches : goal.returns-then-literal_reaches
-returns-then-literal_reaches c =
-    let a = c.args in
-    let i = c.loop-p.p-index in
-    let e : c.size.result ≡ nat_abs (get_or a.head.now i (pos 0)) = search rules in
-    walk_on true _ (any_on a.head.now i (passes a.names.now a.t.now a.l.now) nat_abs (omega arith)) c.loop-p.invariant (sym (c.literal_reaches.ensures ∙ ap (passes a.names.now a.t.now a.l.now) e) ∙ c.if-literal_reaches.true)
-
-pub loop-p-preserved : goal.loop-p-preserved
-loop-p-preserved c =
-    let a = c.args in
-    let i = c.loop-p.p-index in
-    let e : c.size.result ≡ nat_abs (get_or a.head.now i (pos 0)) = search rules in
-    walk_on false _ (any_on a.head.now i (passes a.names.now a.t.now a.l.now) nat_abs (omega arith)) c.loop-p.invariant (sym (c.literal_reaches.ensures ∙ ap (passes a.names.now a.t.now a.l.now) e) ∙ c.if-literal_reaches.false)
+pub any-requires-clause-callable : goal.any-requires-clause-callable
+any-requires-clause-callable c =
+    let l = c.args.head.now in
+    serves_from_places (YieldsList-from_slice l cc) (λ x q r. search rules)
+    (λ x k h e.
+    let m = member_of 256 l c.requires.1 x.now k h e in
+    let low = m.0 in
+    let high = m.1 in
+    search rules)
 
 pub returns : goal.returns
 returns c =
     let a = c.args in
-    sym (any_end a.head.now c.loop-p.p-index (passes a.names.now a.t.now a.l.now) nat_abs (omega arith)) ∙ c.loop-p.invariant
+    any_from_yields_List (λ (w : ℤ). passes a.names.now a.t.now a.l.now (nat_abs w)) _ _ _ c.any.ensures.ran (YieldsList-from_slice a.head.now cc) (λ x b q k. search rules)
+    ∙ any_map (passes a.names.now a.t.now a.l.now) nat_abs a.head.now

@@ -1,58 +1,49 @@
--- `depend::cycles::literal_reaches` meets its contract. Assumes nothing.
+-- `depend::cycles::literal_reaches` meets its contract: it asks the members of the list, each of which is in range. Assumes nothing.
 use borrow.Author.Rules.{rules}
-use native.Mathlib.Omega.{arith}
-use mathlib.Core.Path.{◌≡◌, refl, sym, ap, ◌∙◌, subst}
-use mathlib.Core.Bool.{true, false}
-use Prim.Native.Nat.{ℕ, ◌-◌, ◌≤◌}
-use lib.IntN.{ℤ, pos, nat_abs}
-use lib.ListN.{get_or}
-use mathlib.Core.List.{List}
+use mathlib.Core.Path.{◌≡◌, ◌∙◌}
+use Prim.Native.Nat.{ℕ}
+use lib.IntN.{ℤ, nat_abs}
+use Rattle.std.proofs.lemmas.Iterator.{YieldsList-from_slice}
+use Rattle.std.proofs.lemmas.Iterator.Adapters.{serves_from_places}
+use Rattle.std.proofs.lemmas.Iterator.Search.{any_from_yields_List}
+use mathlib.Core.Bool.{Bool}
+use mathlib.Core.List.{List, map}
+use Prim.Native.Nat.{◌-◌}
+use Rattle.std.specs.List.{list_any}
+use Rattle.meaning.specs.Lists.{any}
+use Rattle.meaning.specs.Program.{Literal}
 use Rattle.layout.specs.Layout.{pairs, pairs_at, start_from, literal_of, aggregate_at}
-use Rattle.reach.specs.Arcs.{Elements}
 use Rattle.reach.proofs.Walk.{elements_laid}
 use Rattle.depend.specs.Circles.{alike}
 use Rattle.depend.specs.Cycles.{returning}
-use Rattle.depend.proofs.cycles.literal_reaches.Invariants.{passes}
-use Rattle.reach.proofs.Lists.{any_on, any_end}
-use Rattle.depend.proofs.Walk.{walk_on}
+use Rattle.depend.proofs.Walk.{any_map, member_of}
 use Rattle.depend.proofs.cycles.literal_reaches.Goals as goal
 
--- the test of a literal is that of its aggregate's pairs
-of_pairs : (names : List ℕ) (p : ℕ) (t : List ℤ) (w : ℤ) → returning (alike names) p (pairs (pairs_at t (start_from t 2 (nat_abs w - 1)))) ≡ passes names p (literal_of t w)
+-- the test of a literal
+abbrev passes : List ℕ → ℕ → Literal → Bool
+passes names p = λ u. returning (alike names) p u.aggregate.elements
+
+-- the same of the pairs that are read for it
+abbrev asks : List ℕ → ℕ → List ℤ → ℤ → Bool
+asks names p t w = returning (alike names) p (pairs (pairs_at t (start_from t 2 (nat_abs w - 1))))
+
+any_pairs : (names : List ℕ) (p : ℕ) (t l : List ℤ) → list_any (asks names p t) l ≡ any (passes names p) (map (literal_of t) l)
 unfolding aggregate_at
-of_pairs names p t w = refl
+any_pairs names p t l = any_map (passes names p) (literal_of t) l
 
-pub elements_of-requires : goal.elements_of-requires
-elements_of-requires c =
-    let i = c.loop-j.j-index in
-    let e : c.size.result ≡ nat_abs (get_or c.args.l.now i (pos 0)) = search rules in
-    let m = c.requires.1 i (omega arith) in
-    (c.requires.0, rw e m.0, rw e m.1)
-
-pub element_reaches-requires : goal.element_reaches-requires
-element_reaches-requires c =
-    let i = c.loop-j.j-index in
-    let e : c.size.result ≡ nat_abs (get_or c.args.l.now i (pos 0)) = search rules in
-    let m = c.requires.1 i (omega arith) in
-    let low : 1 ≤ c.size.result = rw e m.0 in
-    let high : c.size.result ≤ c.args.tb.aggregates = rw e m.1 in
-    (subst (Elements 256) (sym c.elements_of.ensures) (elements_laid c.args.t.now c.args.tb c.requires.0 c.size.result low high), c.requires.2, c.requires.3)
-
-pub returns-then-element_reaches : goal.returns-then-element_reaches
-returns-then-element_reaches c =
-    let a = c.args in
-    let i = c.loop-j.j-index in
-    let e : c.size.result ≡ nat_abs (get_or a.l.now i (pos 0)) = search rules in
-    walk_on true _ (any_on a.l.now i (passes a.names.now a.p) (literal_of a.t.now) (omega arith)) c.loop-j.invariant (sym (c.element_reaches.ensures ∙ ap (λ (m : List ℤ). returning (alike a.names.now) a.p (pairs m)) c.elements_of.ensures ∙ ap (λ (k : ℕ). returning (alike a.names.now) a.p (pairs (pairs_at a.t.now (start_from a.t.now 2 (k - 1))))) e ∙ of_pairs a.names.now a.p a.t.now (get_or a.l.now i (pos 0))) ∙ c.if-element_reaches.true)
-
-pub loop-j-preserved : goal.loop-j-preserved
-loop-j-preserved c =
-    let a = c.args in
-    let i = c.loop-j.j-index in
-    let e : c.size.result ≡ nat_abs (get_or a.l.now i (pos 0)) = search rules in
-    walk_on false _ (any_on a.l.now i (passes a.names.now a.p) (literal_of a.t.now) (omega arith)) c.loop-j.invariant (sym (c.element_reaches.ensures ∙ ap (λ (m : List ℤ). returning (alike a.names.now) a.p (pairs m)) c.elements_of.ensures ∙ ap (λ (k : ℕ). returning (alike a.names.now) a.p (pairs (pairs_at a.t.now (start_from a.t.now 2 (k - 1))))) e ∙ of_pairs a.names.now a.p a.t.now (get_or a.l.now i (pos 0))) ∙ c.if-element_reaches.false)
+pub any-requires-clause-callable : goal.any-requires-clause-callable
+any-requires-clause-callable c =
+    let l = c.args.l.now in
+    serves_from_places (YieldsList-from_slice l cc) (λ x q r. search rules)
+    (λ x k h e.
+    let m = member_of c.args.tb.aggregates l c.requires.1 x.now k h e in
+    let low = m.0 in
+    let high = m.1 in
+    let inside = elements_laid c.args.t.now c.args.tb c.requires.0 (nat_abs x.now) low high in
+    search rules)
 
 pub returns : goal.returns
 returns c =
     let a = c.args in
-    sym (any_end a.l.now c.loop-j.j-index (passes a.names.now a.p) (literal_of a.t.now) (omega arith)) ∙ c.loop-j.invariant
+    any_from_yields_List (asks a.names.now a.p a.t.now) _ _ _ c.any.ensures.ran (YieldsList-from_slice a.l.now cc) (λ x b q k. search rules)
+    ∙ any_pairs a.names.now a.p a.t.now a.l.now
