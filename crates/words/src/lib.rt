@@ -1,7 +1,7 @@
 // Words of the table as numbers on their own.
 #![tactic(auto)]
 
-ghost use Rattle.std.specs.Prelude.{◌≡◌, not, T, nat_abs, pos, length, get_or, ◌<◌};
+ghost use Rattle.std.specs.Prelude.{◌≡◌, T, nat_abs, pos, length, get_or, ◌<◌};
 ghost use Rattle.std.specs.Int.Signed.{non_neg};
 
 // The number without its sign: the one place where a signed word becomes an unsigned one.
@@ -9,13 +9,6 @@ pub fn size(w: i32) -> usize
     ensures { result ≡ nat_abs w }
 {
     w.unsigned_abs() as usize
-}
-
-// Whether a word is below 0.
-pub fn below(w: i32) -> bool
-    ensures { result ≡ not (non_neg w) }
-{
-    w < 0
 }
 
 // The number at an index of a list, without its sign.
