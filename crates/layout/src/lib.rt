@@ -6,7 +6,8 @@
 
 ghost use Rattle.std.specs.Prelude.{◌≡◌, ◌+◌, ◌-◌, ◌*◌, ◌≤◌, ◌<◌, length, get_or, T, nat_abs, pos};
 ghost use Rattle.std.specs.Int.Signed.{non_neg};
-ghost use Rattle.layout.specs.Layout.{nat_at, part_at, past_at, function_by, comparison_by, pairs_at, past_aggregate, aggs_at, past_rule};
+ghost use Rattle.layout.specs.Props.{Laid_prop};
+ghost use Rattle.layout.specs.Layout.{nat_at, part_at, past_at, function_by, comparison_by, pairs_at, past_aggregate, aggs_at, past_rule, Laid};
 
 use meaning::{Comparison, Function};
 
@@ -19,6 +20,14 @@ pub struct Table {
     pub rules: usize,
     pub first: usize,
     pub starts: [u16; Table::AGGREGATES],
+}
+
+// An accepted table: its words, and where their parts stand. That all parts lie within the words and within 01's ranges comes with it.
+#[derive(Clone, Copy)]
+pub struct Accepted<'a> {
+    pub words: &'a [i32],
+    pub places: Table,
+    ghost laid: { Laid words.now places } by { Laid_prop words.now places },
 }
 
 // Where reading stands: the index of the next word.
