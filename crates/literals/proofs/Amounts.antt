@@ -1,5 +1,5 @@
 -- The running numbers over an aggregate's elements, one element at a time, and that they give its value. Assumes nothing.
-use mathlib.Core.Path.{◌≡◌, refl, sym, ◌∙◌, ap, fun_ext}
+use mathlib.Core.Path.{◌≡◌, refl, sym, ◌∙◌, ap, ap₂, fun_ext}
 use mathlib.Core.Bool.{Bool, true, false, not, ◌&&◌, ◌||◌}
 use mathlib.Core.Option.{Option, none, some}
 use mathlib.Core.List.{List, [], ◌∷◌}
@@ -7,9 +7,10 @@ use Prim.Native.Nat.{ℕ, suc, ◌+◌, ◌≤◌, max}
 use native.Mathlib.Numerals.{add-one}
 use native.Mathlib.Omega.{arith}
 use lib.Dec.{ltb, leb, leb-zero, leb-suc-zero, leb-suc-suc}
-use lib.IntN.{ℤ, negsuc}
-use lib.ListN.{length}
+use lib.IntN.{ℤ, pos, negsuc}
+use lib.ListN.{length, get_or}
 use Rattle.meaning.specs.Lists.{all, any, cons_if}
+use Rattle.layout.specs.Layout.{nat_at, function_by, comparison_by, pairs, pairs_at, aggregate_at}
 use Rattle.meaning.specs.Aggregates.{values, total, join, least_of, most_of, value_of, compares, compared}
 use Rattle.meaning.specs.Program.{Element}
 use Rattle.meaning.specs.declared.Function.{Function}
@@ -189,6 +190,15 @@ module _ (a : ℕ → Cell) (z : ℤ) (es : List Element) where
   found_right Min Greater = by_each Greater Min refl
   found_right Max Less = by_each Less Max refl
   found_right Max Greater = by_some Greater Max (most_some z)
+
+-- the same of the aggregate that begins at i
+pub found_at : (X : ℕ → Cell) (t : List ℤ) (i : ℕ) (f : Function) (c : Comparison) (k : ℕ) (w : List ℤ) → f ≡ function_by (nat_at t i) → c ≡ comparison_by (nat_at t (i + 1))
+    → k ≡ limit_of (get_or t (i + 2) (pos 0)) → w ≡ pairs_at t i → found_by f c k X (pairs w) ≡ aggregate_value X (aggregate_at t i)
+unfolding aggregate_at
+found_at X t i f c k w ef ec ek ew =
+    ap (λ (g : Function). found_by g c k X (pairs w)) ef ∙ ap (λ (x : Comparison). found_by (function_by (nat_at t i)) x k X (pairs w)) ec
+    ∙ ap₂ (λ (n : ℕ) (m : List ℤ). found_by (function_by (nat_at t i)) (comparison_by (nat_at t (i + 1))) n X (pairs m)) ek ew
+    ∙ sym (found_right X (get_or t (i + 2) (pos 0)) (pairs (pairs_at t i)) (function_by (nat_at t i)) (comparison_by (nat_at t (i + 1))))
 
 -- an element more of those walked, or of the rest
 pub added_on : (v : Value) (x : ℕ) (t u : Totals)

@@ -119,6 +119,9 @@ module _ (t : List ℤ) (i : ℕ) (L : AggregateLies 256 t i) where
     plain = L.plain;
   }
 
+pub ranged : (t : List ℤ) (i : ℕ) → AggregateLies 256 t i → (w : List ℤ) → w ≡ pairs_at t i → Paired w
+ranged t i L w e = rw e (paired t i L)
+
 -- the aggregate of a literal lies where its place says
 module _ (t : List ℤ) (tb : Table) (L : Laid t tb) (l : List ℤ) (M : Members tb.aggregates l) (k : ℕ) (h : k < length l) where
   abbrev j : ℕ

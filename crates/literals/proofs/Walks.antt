@@ -4,6 +4,7 @@ use mathlib.Core.Bool.{true, false}
 use mathlib.Core.List.{List, ◌∷◌, map}
 use Prim.Native.Nat.{ℕ, zero, suc, ◌+◌, ◌-◌, ◌≤◌, ◌<◌}
 use native.Mathlib.Numerals.{add-one}
+use native.Mathlib.Omega.{arith}
 use lib.IntN.{ℤ, pos, nat_abs}
 use lib.ListN.{length, get_or, drop, drop_of_length-le}
 use lib.Seq.{drop-cons}
@@ -12,10 +13,12 @@ use Rattle.interpretation.specs.State.{Cell}
 use Rattle.interpretation.specs.View.{valued, cell_by}
 use Rattle.interpretation.proofs.Laws.{valued_at}
 use Rattle.interpretation.specs.declared.Value.{Value}
-use Rattle.layout.specs.Layout.{atoms}
+use Rattle.layout.specs.Layout.{atoms, Members}
 use Rattle.valuing.specs.Values.{says_false, Lit, value}
 use Rattle.valuing.specs.Reasons.{reason_at, reason_of, reasons_of}
-use Rattle.std.specs.Prelude.{Some, None}
+use Rattle.std.specs.Prelude.{Option, Some, None, MatchOption}
+use Rattle.std.specs.List.{AllWithin, HoldsAt}
+use Rattle.std.proofs.lemmas.List.{get_or_default}
 use Rattle.literals.specs.Scan.{first_from, atoms_reason}
 use Rattle.literals.proofs.Scans.{first_none, first_at, first_later}
 use Rattle.literals.proofs.Together.{union_assoc, union_turn}
@@ -42,6 +45,28 @@ module _ {A : Type 0} (g : ℤ → A) (f : A → Lit) (a : ℕ → Cell) (l : Li
 
   pub walk_end : length l ≤ i → first_from a i (lits i) ≡ None
   walk_end h = ap (λ (m : List ℤ). first_from a i (map f (map g m))) (drop_of_length-le l h) ∙ first_none a i
+
+-- the index that a search by `position` gives is that of the first false literal
+module _ {A : Type 0} (g : ℤ → A) (f : A → Lit) (a : ℕ → Cell) (l : List ℤ) where
+  abbrev pub Yes : ℤ → Type 0
+  Yes w = says_false (value a (f (g w))) ≡ true
+
+  abbrev pub No : ℤ → Type 0
+  No w = says_false (value a (f (g w))) ≡ false
+
+  skipped : (i : ℕ) → i ≤ length l → AllWithin No l 0 i → first_from a 0 (map f (map g l)) ≡ first_from a i (map f (map g (drop i l)))
+  skipped zero h n = refl
+  skipped (suc i) h n =
+      skipped i (omega arith) (λ k d b t. n k d b (omega arith)) ∙ walk_on g f a l i h _ refl (n i (pos 0) (omega arith) (omega arith))
+      ∙ ap (λ (j : ℕ). first_from a j (map f (map g (drop j l)))) (add-one i)
+
+  pub first_word : (r : Option ℕ) → MatchOption r (AllWithin No l 0 (length l)) (λ i. (i < length l) × HoldsAt Yes l i × AllWithin No l 0 i) → r ≡ first_from a 0 (map f (map g l))
+  first_word None n = sym (skipped (length l) (omega arith) n ∙ walk_end g f a l (length l) (omega arith))
+  first_word (Some i) h = sym (skipped i (omega arith) h.2 ∙ walk_false g f a l i h.0 _ refl (h.1 (pos 0)))
+
+-- a word of a list whose members lie in a range
+pub in_range : (l : List ℤ) → Members 256 l → (k : ℕ) (z : ℤ) → k < length l → z ≡ get_or l k z → (1 ≤ nat_abs z) × (nat_abs z ≤ 256)
+in_range l M k z h e = let f = e ∙ get_or_default l k z (pos 0) h in rw f (M k h)
 
 -- ---- reasons
 

@@ -152,19 +152,13 @@ pub fn aggregate_value(t: &[i32], at: usize, values: &[u8; 256]) -> Value
 {
     let w = layout::pairs(t, at);
     let c = layout::comparison(t, at);
-    let place = at + 2;
-    let k = limit(t, place);
-    let f = layout::function(t, at);
-    match f {
-        Function::Count => totals_value(w, true, c, k, values),
-        Function::Sum => totals_value(w, false, c, k, values),
-        Function::Min => match c {
-            Comparison::Less => some_value(w, c, k, values),
-            Comparison::Greater => each_value(w, c, k, values),
-        },
-        Function::Max => match c {
-            Comparison::Less => each_value(w, c, k, values),
-            Comparison::Greater => some_value(w, c, k, values),
-        },
+    let k = limit(t, at + 2);
+    match (layout::function(t, at), c) {
+        (Function::Count, _) => totals_value(w, true, c, k, values),
+        (Function::Sum, _) => totals_value(w, false, c, k, values),
+        (Function::Min, Comparison::Less) => some_value(w, c, k, values),
+        (Function::Min, Comparison::Greater) => each_value(w, c, k, values),
+        (Function::Max, Comparison::Less) => each_value(w, c, k, values),
+        (Function::Max, Comparison::Greater) => some_value(w, c, k, values),
     }
 }

@@ -66,13 +66,8 @@ pub fn false_atom(l: &[i32], sign: bool, values: &[u8; 256]) -> Option<usize>
     requires { Members 256 l.now }
     ensures { result ≡ first_false (valued values.now) (atom_lits sign l.now) }
 {
-    for (i, w) in l.iter().enumerate() {
-        let v = interpretation::value_of(values, words::size(*w));
-        if signed(sign, v) == Value::False {
-            return Some(i);
-        }
-    }
-    None
+    l.iter().position(|w| signed(sign, interpretation::value_of(values, words::size(*w)))
+        == Value::False)
 }
 
 // The reason of atom p joined to a set.

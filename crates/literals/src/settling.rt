@@ -228,10 +228,8 @@ pub fn aggregate_reason(
 {
     let w = layout::pairs(t, at);
     let c = layout::comparison(t, at);
-    let place = at + 2;
-    let k = aggregates::limit(t, place);
-    let f = layout::function(t, at);
-    match f {
+    let k = aggregates::limit(t, at + 2);
+    match layout::function(t, at) {
         Function::Count => adds_reason(w, true, c, k, values, reasons, more),
         Function::Sum => adds_reason(w, false, c, k, values, reasons, more),
         Function::Min => single_reason(w, above(c), c, k, values, reasons, more),
