@@ -6,6 +6,7 @@ ghost use Rattle.aspif_parts.specs.Held.{numbered_from, held_by};
 
 use layout::Table;
 
+// Stays: 0 says that no turn can follow, as `turn` of crate `notation` has it, whose meaning may not change.
 // The aggregate whose turn it is after the literal at index i of a list, or 0.
 fn turn(l: &[i32], i: usize, d: usize, e: usize) -> usize
     requires { (i < length l.now) × (nat_at l.now i ≤ 64) }
