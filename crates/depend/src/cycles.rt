@@ -3,14 +3,15 @@
 // out no cycle: `proofs/Skipped.antt`.
 ghost use Rattle.std.specs.Prelude.{◌≡◌, ◌&&◌, map, ◌≤◌, length};
 ghost use Rattle.meaning.specs.Lists.{any};
-ghost use Rattle.layout.specs.Layout.{past_at, pos_at, aggs_at, atoms, Members, pairs, literal_of, rule_at, RuleLies, program_of, Laid};
+ghost use Rattle.layout.specs.Accepted.{program_in, rule_in, RuleIn};
+ghost use Rattle.layout.specs.Layout.{past_at, pos_at, aggs_at, atoms, Members, pairs, literal_of, rule_at, RuleLies, program_of};
 ghost use Rattle.reach.specs.Arcs.{Elements};
 ghost use Rattle.depend.specs.Circles.{alike};
 ghost use Rattle.depend.specs.Cycles.{full, wide, makes_arcs, adds_arcs, may_cross, may_return, may_close, crossing, crossed, returning, returned, closes, lowest};
 
 use crate::circles;
 use crate::circles::Names;
-use layout::Table;
+use layout::Accepted;
 use reach::arcs;
 
 // ---- whether there can be a cycle
@@ -57,45 +58,42 @@ pub fn adds_arcs(t: &[i32], at: usize) -> bool
 }
 
 // Whether there can be a head cycle: a head of two atoms, and an arc.
-pub fn may_cross(t: &[i32], tb: Table) -> bool
-    requires { Laid t.now tb }
-    ensures { result ≡ may_cross (program_of t.now tb) }
+pub fn may_cross(t: &Accepted) -> bool
+    ensures { result ≡ may_cross (program_in t.now) }
 {
     let mut two = false;
     let mut arcs = false;
-    let mut at = tb.first;
-    for _ in 0..tb.rules {
-        two |= is_wide(t, at);
-        arcs |= makes_arcs(t, at);
-        at = layout::past_rule(t, at);
+    let mut at = t.places.first;
+    for _ in 0..t.places.rules {
+        two |= is_wide(t.words, at);
+        arcs |= makes_arcs(t.words, at);
+        at = layout::past_rule(t.words, at);
     }
     two && arcs
 }
 
 // Whether there can be an aggregate cycle: an arc that is added.
-pub fn may_return(t: &[i32], tb: Table) -> bool
-    requires { Laid t.now tb }
-    ensures { result ≡ may_return (program_of t.now tb) }
+pub fn may_return(t: &Accepted) -> bool
+    ensures { result ≡ may_return (program_in t.now) }
 {
-    let mut at = tb.first;
-    for _ in 0..tb.rules {
-        if adds_arcs(t, at) {
+    let mut at = t.places.first;
+    for _ in 0..t.places.rules {
+        if adds_arcs(t.words, at) {
             return true;
         }
-        at = layout::past_rule(t, at);
+        at = layout::past_rule(t.words, at);
     }
     false
 }
 
 // Whether there can be a cycle of the kind: a head cycle, or where `added` an aggregate cycle.
-pub fn may_close(t: &[i32], tb: Table, added: bool) -> bool
-    requires { Laid t.now tb }
-    ensures { result ≡ may_close added (program_of t.now tb) }
+pub fn may_close(t: &Accepted, added: bool) -> bool
+    ensures { result ≡ may_close added (program_in t.now) }
 {
     if added {
-        return may_return(t, tb);
+        return may_return(t);
     }
-    may_cross(t, tb)
+    may_cross(t)
 }
 
 // ---- which rule has one
@@ -141,50 +139,49 @@ pub fn element_reaches(names: &Names, l: &[i32], p: usize) -> bool
 }
 
 // Whether an element of one of the aggregate literals reaches p.
-pub fn literal_reaches(t: &[i32], tb: Table, names: &Names, l: &[i32], p: usize) -> bool
-    requires { Laid t.now tb × Members tb.aggregates l.now × (1 ≤ p) × (p ≤ 256) }
-    ensures { result ≡ any (λ u. returning (alike names.now) p u.aggregate.elements) (map (literal_of t.now) l.now) }
+pub fn literal_reaches(t: &Accepted, names: &Names, l: &[i32], p: usize) -> bool
+    requires { Members t.now.places.aggregates l.now × (1 ≤ p) × (p ≤ 256) }
+    ensures { result ≡ any (λ u. returning (alike names.now) p u.aggregate.elements) (map (literal_of t.now.words.now) l.now) }
 {
     l.iter().any(|j| {
-        let pairs = arcs::elements_of(t, tb, words::size(*j));
+        let pairs = arcs::elements_of(t, words::size(*j));
         element_reaches(names, pairs, p)
     })
 }
 
 // Whether one of them reaches an atom of a head.
-pub fn head_reached(t: &[i32], tb: Table, names: &Names, head: &[i32], l: &[i32]) -> bool
-    requires { Laid t.now tb × Members 256 head.now × Members tb.aggregates l.now }
-    ensures { result ≡ returned (alike names.now) (atoms head.now) (map (literal_of t.now) l.now) }
+pub fn head_reached(t: &Accepted, names: &Names, head: &[i32], l: &[i32]) -> bool
+    requires { Members 256 head.now × Members t.now.places.aggregates l.now }
+    ensures { result ≡ returned (alike names.now) (atoms head.now) (map (literal_of t.now.words.now) l.now) }
 {
     head.iter()
-        .any(|p| literal_reaches(t, tb, names, l, words::size(*p)))
+        .any(|p| literal_reaches(t, names, l, words::size(*p)))
 }
 
 // Whether the rule that begins at `at` has two head atoms that reach each other, or where `added` adds an arc that lies on a cycle.
-pub fn closes(t: &[i32], tb: Table, added: bool, names: &Names, at: usize) -> bool
-    requires { Laid t.now tb × RuleLies tb.atoms tb.aggregates t.now at }
-    ensures { result ≡ closes added (alike names.now) (rule_at t.now at) }
+pub fn closes(t: &Accepted, added: bool, names: &Names, at: usize) -> bool
+    requires { RuleIn t.now at }
+    ensures { result ≡ closes added (alike names.now) (rule_in t.now at) }
 {
-    let head = layout::part(t, at);
+    let head = layout::part(t.words, at);
     if !added {
         return crossed(names, head);
     }
-    let place = layout::literals_at(t, at);
-    let l = layout::part(t, place);
-    head_reached(t, tb, names, head, l)
+    let place = layout::literals_at(t.words, at);
+    let l = layout::part(t.words, place);
+    head_reached(t, names, head, l)
 }
 
 // The lowest such rule.
-pub fn first(t: &[i32], tb: Table, added: bool, names: &Names) -> Option<usize>
-    requires { Laid t.now tb }
-    ensures { result ≡ lowest (closes added (alike names.now)) 1 (program_of t.now tb) }
+pub fn first(t: &Accepted, added: bool, names: &Names) -> Option<usize>
+    ensures { result ≡ lowest (closes added (alike names.now)) 1 (program_in t.now) }
 {
-    let mut at = tb.first;
-    for k in 0..tb.rules {
-        if closes(t, tb, added, names, at) {
+    let mut at = t.places.first;
+    for k in 0..t.places.rules {
+        if closes(t, added, names, at) {
             return Some(k + 1);
         }
-        at = layout::past_rule(t, at);
+        at = layout::past_rule(t.words, at);
     }
     None
 }

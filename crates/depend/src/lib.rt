@@ -7,12 +7,13 @@
 
 ghost use Rattle.std.specs.Prelude.{◌≡◌, suc};
 ghost use Rattle.meaning.specs.Cycles.{aggregate_cycle};
-ghost use Rattle.layout.specs.Layout.{program_of, Laid};
+ghost use Rattle.layout.specs.Accepted.{program_in, rule_in, RuleIn};
+ghost use Rattle.layout.specs.Layout.{program_of};
 ghost use Rattle.heads.specs.Heads.{Listed};
 ghost use Rattle.depend.specs.Cycles.{lowest, ninth, cycle_test, head_cycle_by, cycle_by};
 
 use heads::Lists;
-use layout::Table;
+use layout::Accepted;
 use reach::settling;
 use results::Refusal;
 
@@ -21,51 +22,51 @@ mod cycles;
 
 // The refusal of an accepted table for its cycles: 8 before 9, each at its lowest rule; where head cycles are taken, 9 alone. `lists` are the table's
 // lists of rules by head.
-pub fn refusal(t: &[i32], tb: Table, cycles: bool, lists: &Lists) -> Result<(), Refusal>
-    requires { Laid t.now tb × Listed t.now tb lists.now }
-    ensures { result ≡ cycle_by cycles tb.atoms (program_of t.now tb) }
+pub fn refusal(t: &Accepted, cycles: bool, lists: &Lists) -> Result<(), Refusal>
+    requires { Listed t.now.words.now t.now.places lists.now }
+    ensures { result ≡ cycle_by cycles t.now.places.atoms (program_in t.now) }
 {
-    match lowest_eighth(t, tb, cycles, lists) {
+    match lowest_eighth(t, cycles, lists) {
         Some(rule) => Err(Refusal::HeadCycle(rule)),
-        None => ninth(t, tb, lists),
+        None => ninth(t, lists),
     }
 }
 
 // The lowest rule that 8 is given for: none where head cycles are taken.
-fn lowest_eighth(t: &[i32], tb: Table, cycles: bool, lists: &Lists) -> Option<usize>
-    requires { Laid t.now tb × Listed t.now tb lists.now }
-    ensures { result ≡ lowest (head_cycle_by cycles (suc tb.atoms) (program_of t.now tb)) 1 (program_of t.now tb) }
+fn lowest_eighth(t: &Accepted, cycles: bool, lists: &Lists) -> Option<usize>
+    requires { Listed t.now.words.now t.now.places lists.now }
+    ensures { result ≡ lowest (head_cycle_by cycles (suc t.now.places.atoms) (program_in t.now)) 1 (program_in t.now) }
 {
     if cycles {
         return None;
     }
-    lowest_of(t, tb, false, lists)
+    lowest_of(t, false, lists)
 }
 
 // Refusal 9 at its lowest rule, or nothing. It is asked at one place, so that the compiler lets what it takes share the memory of 8.
-fn ninth(t: &[i32], tb: Table, lists: &Lists) -> Result<(), Refusal>
-    requires { Laid t.now tb × Listed t.now tb lists.now }
-    ensures { result ≡ ninth (lowest (aggregate_cycle (suc tb.atoms) (program_of t.now tb)) 1 (program_of t.now tb)) }
+fn ninth(t: &Accepted, lists: &Lists) -> Result<(), Refusal>
+    requires { Listed t.now.words.now t.now.places lists.now }
+    ensures { result ≡ ninth (lowest (aggregate_cycle (suc t.now.places.atoms) (program_in t.now)) 1 (program_in t.now)) }
 {
-    match lowest_of(t, tb, true, lists) {
+    match lowest_of(t, true, lists) {
         Some(rule) => Err(Refusal::AggregateCycle(rule)),
         None => Ok(()),
     }
 }
 
 // The lowest rule with a head cycle, or where `added` the lowest that adds an arc of an aggregate cycle.
-fn lowest_of(t: &[i32], tb: Table, added: bool, lists: &Lists) -> Option<usize>
-    requires { Laid t.now tb × Listed t.now tb lists.now }
-    ensures { result ≡ lowest (cycle_test added (suc tb.atoms) (program_of t.now tb)) 1 (program_of t.now tb) }
+fn lowest_of(t: &Accepted, added: bool, lists: &Lists) -> Option<usize>
+    requires { Listed t.now.words.now t.now.places lists.now }
+    ensures { result ≡ lowest (cycle_test added (suc t.now.places.atoms) (program_in t.now)) 1 (program_in t.now) }
 {
-    if !cycles::may_close(t, tb, added) {
+    if !cycles::may_close(t, added) {
         return None;
     }
-    let settled = settling::settled(t, tb, lists, added);
-    if settling::everything(settled, tb) {
+    let settled = settling::settled(t, lists, added);
+    if settling::everything(settled, t.places) {
         return None;
     }
     let mut names = circles::apart();
-    circles::find(t, tb, lists, added, settled, &mut names);
-    cycles::first(t, tb, added, &names)
+    circles::find(t, lists, added, settled, &mut names);
+    cycles::first(t, added, &names)
 }

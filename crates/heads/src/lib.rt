@@ -7,10 +7,11 @@
 
 ghost use Rattle.std.specs.Prelude.{◌≡◌, List, [], ℕ, ◌+◌, ◌*◌, ◌≤◌, ◌<◌, length, get_or, take, drop};
 ghost use Rattle.meaning.specs.Lists.{has};
-ghost use Rattle.layout.specs.Layout.{atoms, Members, Laid};
+ghost use Rattle.layout.specs.Accepted.{program_in, rule_in, RuleIn};
+ghost use Rattle.layout.specs.Layout.{atoms, Members};
 ghost use Rattle.heads.specs.Heads.{bounds, size, places_of, list_at, Whole, Counted, Counts, end_of, Ended, Regions, Room, Put};
 
-use layout::Table;
+use layout::{Accepted, Table};
 
 // The words that say where lists begin and end: two for list 0 and two for each atom.
 pub const BOUNDS: usize = 2 * (Table::ATOMS + 1);
@@ -49,15 +50,15 @@ pub fn clear(lists: &mut [u16])
 }
 
 // Where each rule begins, written from index `BOUNDS` on: list 0.
-pub fn rules(t: &[i32], tb: Table, lists: &mut [u16])
-    requires { Laid t.now tb × (length lists.old ≡ size) }
+pub fn rules(t: &Accepted, lists: &mut [u16])
+    requires { (length lists.old ≡ size) }
     ensures { (length lists.new ≡ size) × (take bounds lists.new ≡ take bounds lists.old)
-        × (take tb.rules (drop bounds lists.new) ≡ places_of t.now tb) }
+        × (take t.now.places.rules (drop bounds lists.new) ≡ places_of t.now.words.now t.now.places) }
 {
-    let mut at = tb.first;
-    for i in 0..tb.rules {
+    let mut at = t.places.first;
+    for i in 0..t.places.rules {
         lists[BOUNDS + i] = at as u16;
-        at = layout::past_rule(t, at);
+        at = layout::past_rule(t.words, at);
     }
 }
 
@@ -76,13 +77,13 @@ pub fn count_head(head: &[i32], lists: &mut [u16])
 }
 
 // The rules with each atom in the head, counted.
-pub fn count(t: &[i32], tb: Table, lists: &mut [u16])
-    requires { Laid t.now tb × Counts t.now tb [] lists.old }
-    ensures { Counts t.now tb (places_of t.now tb) lists.new }
+pub fn count(t: &Accepted, lists: &mut [u16])
+    requires { Counts t.now.words.now t.now.places [] lists.old }
+    ensures { Counts t.now.words.now t.now.places (places_of t.now.words.now t.now.places) lists.new }
 {
-    for r in (0..tb.rules).rev() {
+    for r in (0..t.places.rules).rev() {
         let at = lists[BOUNDS + r] as usize;
-        let head = layout::part(t, at);
+        let head = layout::part(t.words, at);
         count_head(head, lists);
     }
 }
@@ -122,25 +123,25 @@ pub fn put_head(head: &[i32], rule: u16, lists: &mut [u16])
 }
 
 // All rules put into their lists, from the last to the first, where each list is empty and its end is known.
-pub fn put_rules(t: &[i32], tb: Table, lists: &mut [u16])
-    requires { Laid t.now tb × ((a : List ℕ) × Counts t.now tb (places_of t.now tb) a × Ended (bounds + tb.rules) 256 a lists.old) }
-    ensures { Whole t.now tb lists.new }
+pub fn put_rules(t: &Accepted, lists: &mut [u16])
+    requires { ((a : List ℕ) × Counts t.now.words.now t.now.places (places_of t.now.words.now t.now.places) a × Ended (bounds + t.now.places.rules) 256 a lists.old) }
+    ensures { Whole t.now.words.now t.now.places lists.new }
 {
-    for last in (0..tb.rules).rev() {
+    for last in (0..t.places.rules).rev() {
         let rule = lists[BOUNDS + last];
-        let head = layout::part(t, rule as usize);
+        let head = layout::part(t.words, rule as usize);
         put_head(head, rule, lists);
     }
 }
 
 // The lists of an accepted table.
-pub fn fill(t: &[i32], tb: Table, lists: &mut [u16])
-    requires { Laid t.now tb × (length lists.old ≡ size) }
-    ensures { Whole t.now tb lists.new }
+pub fn fill(t: &Accepted, lists: &mut [u16])
+    requires { (length lists.old ≡ size) }
+    ensures { Whole t.now.words.now t.now.places lists.new }
 {
     clear(lists);
-    rules(t, tb, lists);
-    count(t, tb, lists);
-    ends(tb.rules, lists);
-    put_rules(t, tb, lists);
+    rules(t, lists);
+    count(t, lists);
+    ends(t.places.rules, lists);
+    put_rules(t, lists);
 }

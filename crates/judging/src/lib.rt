@@ -7,7 +7,7 @@ ghost use Rattle.std.specs.Prelude.{◌≡◌, ◌≤◌, length};
 ghost use Rattle.judging.specs.Judging.{Judged, JudgedBy, JudgedWords, Filled, fault_of};
 
 use heads::Lists;
-use layout::Table;
+use layout::{Accepted, Table};
 use results::Refusal;
 
 // The buffer that an entry is lent for what it writes or reads, as far as it is judged with the table.
@@ -49,10 +49,11 @@ fn earned(buffer: Buffer) -> Result<(), Refusal>
 fn words_judged(words: &[i32], cycles: bool, lists: &mut Lists) -> Result<Table, Refusal>
     ensures { JudgedWords cycles words.now result × Filled words.now result lists.new }
 {
-    let tb = table::read(words)?;
-    heads::fill(words, tb, lists);
-    depend::refusal(words, tb, cycles, lists)?;
-    Ok(tb)
+    let places = table::read(words)?;
+    let t = Accepted { words, places };
+    heads::fill(&t, lists);
+    depend::refusal(&t, cycles, lists)?;
+    Ok(places)
 }
 
 // Where the parts of an accepted table stand, with its lists of rules by head; or why it is refused. What the lists held before does not matter.

@@ -16,7 +16,7 @@ abbrev by : List ℤ → Table → Bool → Option ℕ
 by t tb cycles = let P = program_of t tb in lowest (head_cycle_by cycles (suc tb.atoms) P) 1 P
 
 pub returns-then-cycles : goal.returns-then-cycles
-returns-then-cycles c = sym (nowhere 1 (program_of c.args.t.now c.args.tb)) ∙ ap (by c.args.t.now c.args.tb) (sym c.if-cycles.true)
+returns-then-cycles c = sym (nowhere 1 (program_of c.args.t.now.words.now c.args.t.now.places)) ∙ ap (by c.args.t.now.words.now c.args.t.now.places) (sym c.if-cycles.true)
 
 pub returns : goal.returns
-returns c = c.lowest_of.ensures ∙ ap (by c.args.t.now c.args.tb) (sym c.if-cycles.false)
+returns c = c.lowest_of.ensures ∙ ap (by c.args.t.now.words.now c.args.t.now.places) (sym c.if-cycles.false)

@@ -11,12 +11,12 @@ pub returns-in-Some : goal.returns-in-Some
 unfolding cycle_by
 returns-in-Some c =
     let a = c.args in
-    let P = program_of a.t.now a.tb in
-    ap (λ (p : Option ℕ). eighth p (ninth (lowest (aggregate_cycle (suc a.tb.atoms) P) 1 P))) c.in-Some.ensures
+    let P = program_of a.t.now.words.now a.t.now.places in
+    ap (λ (p : Option ℕ). eighth p (ninth (lowest (aggregate_cycle (suc a.t.now.places.atoms) P) 1 P))) c.in-Some.ensures
 
 pub returns-in-None : goal.returns-in-None
 unfolding cycle_by
 returns-in-None c =
     let a = c.args in
-    let P = program_of a.t.now a.tb in
-    c.ninth.ensures ∙ ap (λ (p : Option ℕ). eighth p (ninth (lowest (aggregate_cycle (suc a.tb.atoms) P) 1 P))) c.in-None.ensures
+    let P = program_of a.t.now.words.now a.t.now.places in
+    c.ninth.ensures ∙ ap (λ (p : Option ℕ). eighth p (ninth (lowest (aggregate_cycle (suc a.t.now.places.atoms) P) 1 P))) c.in-None.ensures

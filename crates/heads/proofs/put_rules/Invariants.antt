@@ -5,4 +5,4 @@ use Rattle.heads.proofs.Placing.{Placed}
 use Rattle.heads.proofs.put_rules.Given as goal
 
 abbrev pub invariant-loop-last : goal.invariant-loop-last
-invariant-loop-last l = Placed l.t l.fn.tb (drop l.last (places_of l.t l.fn.tb)) l.lists
+invariant-loop-last l = Placed l.t.words.now l.fn.t.places (drop l.last (places_of l.t.words.now l.fn.t.places)) l.lists

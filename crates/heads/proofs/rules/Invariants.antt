@@ -11,5 +11,5 @@ use Rattle.heads.proofs.rules.Given as goal
 
 abbrev pub invariant-loop-i : goal.invariant-loop-i
 invariant-loop-i l =
-    (length l.lists ≡ size) × (take bounds l.lists ≡ take bounds l.initial.lists) × RulesLie l.fn.tb.atoms l.fn.tb.aggregates l.t l.at (l.fn.tb.rules - l.i)
-    × (part l.lists bounds l.i ++ places_from l.t l.at (l.fn.tb.rules - l.i) ≡ places_of l.t l.fn.tb)
+    (length l.lists ≡ size) × (take bounds l.lists ≡ take bounds l.initial.lists) × RulesLie l.fn.t.places.atoms l.fn.t.places.aggregates l.t.words.now l.at (l.fn.t.places.rules - l.i)
+    × (part l.lists bounds l.i ++ places_from l.t.words.now l.at (l.fn.t.places.rules - l.i) ≡ places_of l.t.words.now l.fn.t.places)

@@ -7,4 +7,4 @@ use Rattle.depend.proofs.circles.find.Given as goal
 
 abbrev pub invariant-loop-p : goal.invariant-loop-p
 invariant-loop-p l =
-    Named (arcs_of l.added (program_of l.t l.tb)) l.n l.p l.names × Final (arcs_of l.added (program_of l.t l.tb)) l.n l.names (row l.done)
+    Named (arcs_of l.added (program_of l.t.words.now l.t.places)) l.n l.p l.names × Final (arcs_of l.added (program_of l.t.words.now l.t.places)) l.n l.names (row l.done)

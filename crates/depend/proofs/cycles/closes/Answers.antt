@@ -15,13 +15,13 @@ returns-then-not-added c =
     let X = alike a.names.now in
     c.crossed.ensures
     ∙ ap (λ (l : List ℤ). crossed X (atoms l)) c.part-head.ensures
-    ∙ ap (λ (b : Bool). closes b X (rule_at a.t.now a.at)) (sym c.if-not-added.true)
+    ∙ ap (λ (b : Bool). closes b X (rule_at a.t.now.words.now a.at)) (sym c.if-not-added.true)
 
 pub returns : goal.returns
 unfolding rule_at
 returns c =
     let a = c.args in
-    let t = a.t.now in
+    let t = a.t.now.words.now in
     let X = alike a.names.now in
     c.head_reached.ensures
     ∙ ap (λ (l : List ℤ). returned X (atoms l) (map (literal_of t) c.part-l.result.now)) c.part-head.ensures

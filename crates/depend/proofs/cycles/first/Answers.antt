@@ -9,24 +9,24 @@ use Rattle.depend.proofs.cycles.first.Goals as goal
 
 pub closes-requires : goal.closes-requires
 closes-requires c =
-    let tb = c.args.tb in
-    (c.requires, (lies_next c.args.t.now c.loop-k.at c.loop-k.k tb.rules tb.atoms tb.aggregates c.loop-k-test.true c.loop-k.invariant.0).0)
+    let tb = c.args.t.now.places in
+    (lies_next c.args.t.now.words.now c.loop-k.at c.loop-k.k tb.rules tb.atoms tb.aggregates c.loop-k-test.true c.loop-k.invariant.0).0
 
 pub returns-then-closes : goal.returns-then-closes
 returns-then-closes c =
     let a = c.args in
-    sym (lowest_here a.t.now c.loop-k.at c.loop-k.k a.tb.rules (closes a.added (alike a.names.now)) c.loop-k-test.true (sym c.closes.ensures ∙ c.if-closes.true)) ∙ c.loop-k.invariant.1
+    sym (lowest_here a.t.now.words.now c.loop-k.at c.loop-k.k a.t.now.places.rules (closes a.added (alike a.names.now)) c.loop-k-test.true (sym c.closes.ensures ∙ c.if-closes.true)) ∙ c.loop-k.invariant.1
 
 pub past_rule-at-requires : goal.past_rule-at-requires
 past_rule-at-requires c =
-    let tb = c.args.tb in
-    (lies_next c.args.t.now c.loop-k.at c.loop-k.k tb.rules tb.atoms tb.aggregates c.loop-k-test.true c.loop-k.invariant.0).0.aggs.fits
+    let tb = c.args.t.now.places in
+    (lies_next c.args.t.now.words.now c.loop-k.at c.loop-k.k tb.rules tb.atoms tb.aggregates c.loop-k-test.true c.loop-k.invariant.0).0.aggs.fits
 
 pub loop-k-preserved : goal.loop-k-preserved
 loop-k-preserved c =
     let a = c.args in
-    let t = a.t.now in
-    let tb = a.tb in
+    let t = a.t.now.words.now in
+    let tb = a.t.now.places in
     let k = c.loop-k.k in
     let f = closes a.added (alike a.names.now) in (
       subst (λ (j : ℕ). RulesLie tb.atoms tb.aggregates t j (tb.rules - (k + 1))) (sym c.past_rule-at.ensures) (lies_next t c.loop-k.at k tb.rules tb.atoms tb.aggregates c.loop-k-test.true c.loop-k.invariant.0).1,
@@ -38,4 +38,4 @@ loop-k-preserved c =
 pub returns : goal.returns
 returns c =
     let a = c.args in
-    sym (lowest_end a.t.now c.loop-k.at c.loop-k.k a.tb.rules (closes a.added (alike a.names.now)) c.loop-k-test.false) ∙ c.loop-k.invariant.1
+    sym (lowest_end a.t.now.words.now c.loop-k.at c.loop-k.k a.t.now.places.rules (closes a.added (alike a.names.now)) c.loop-k-test.false) ∙ c.loop-k.invariant.1

@@ -8,5 +8,5 @@ use Rattle.depend.proofs.cycles.first.Given as goal
 
 abbrev pub invariant-loop-k : goal.invariant-loop-k
 invariant-loop-k l =
-    RulesLie l.fn.tb.atoms l.fn.tb.aggregates l.t l.at (l.fn.tb.rules - l.k)
-    × (lowest (closes l.added (alike l.names)) (l.k + 1) (rules_from l.t l.at (l.fn.tb.rules - l.k)) ≡ lowest (closes l.added (alike l.names)) 1 (rules_from l.t l.fn.tb.first l.fn.tb.rules))
+    RulesLie l.fn.t.places.atoms l.fn.t.places.aggregates l.t.words.now l.at (l.fn.t.places.rules - l.k)
+    × (lowest (closes l.added (alike l.names)) (l.k + 1) (rules_from l.t.words.now l.at (l.fn.t.places.rules - l.k)) ≡ lowest (closes l.added (alike l.names)) 1 (rules_from l.t.words.now l.fn.t.places.first l.fn.t.places.rules))

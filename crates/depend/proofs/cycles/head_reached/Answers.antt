@@ -25,7 +25,7 @@ any-requires-clause-callable c =
     let l = c.args.head.now in
     serves_from_places (YieldsList-from_slice l cc) (λ x q r. search rules)
     (λ x k h e.
-    let m = member_of 256 l c.requires.1 x.now k h e in
+    let m = member_of 256 l c.requires.0 x.now k h e in
     let low = m.0 in
     let high = m.1 in
     search rules)
@@ -33,5 +33,5 @@ any-requires-clause-callable c =
 pub returns : goal.returns
 returns c =
     let a = c.args in
-    any_from_yields_List (λ (w : ℤ). passes a.names.now a.t.now a.l.now (nat_abs w)) _ _ _ c.any.ensures.ran (YieldsList-from_slice a.head.now cc) (λ x b q k. search rules)
-    ∙ any_map (passes a.names.now a.t.now a.l.now) nat_abs a.head.now
+    any_from_yields_List (λ (w : ℤ). passes a.names.now a.t.now.words.now a.l.now (nat_abs w)) _ _ _ c.any.ensures.ran (YieldsList-from_slice a.head.now cc) (λ x b q k. search rules)
+    ∙ any_map (passes a.names.now a.t.now.words.now a.l.now) nat_abs a.head.now

@@ -36,14 +36,14 @@ any-requires-clause-callable c =
     let l = c.args.l.now in
     serves_from_places (YieldsList-from_slice l cc) (λ x q r. search rules)
     (λ x k h e.
-    let m = member_of c.args.tb.aggregates l c.requires.1 x.now k h e in
+    let m = member_of c.args.t.now.places.aggregates l c.requires.0 x.now k h e in
     let low = m.0 in
     let high = m.1 in
-    let inside = elements_laid c.args.t.now c.args.tb c.requires.0 (nat_abs x.now) low high in
+    let inside = elements_laid c.args.t.now.words.now c.args.t.now.places c.args.t.now.laid (nat_abs x.now) low high in
     search rules)
 
 pub returns : goal.returns
 returns c =
     let a = c.args in
-    any_from_yields_List (asks a.names.now a.p a.t.now) _ _ _ c.any.ensures.ran (YieldsList-from_slice a.l.now cc) (λ x b q k. search rules)
-    ∙ any_pairs a.names.now a.p a.t.now a.l.now
+    any_from_yields_List (asks a.names.now a.p a.t.now.words.now) _ _ _ c.any.ensures.ran (YieldsList-from_slice a.l.now cc) (λ x b q k. search rules)
+    ∙ any_pairs a.names.now a.p a.t.now.words.now a.l.now

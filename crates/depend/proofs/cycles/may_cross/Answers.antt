@@ -32,24 +32,24 @@ gathers_end f t i₀ n i k b h g = sym (ap (λ (x : Bool). x || b) (some_end t i
 
 pub is_wide-two-requires : goal.is_wide-two-requires
 is_wide-two-requires c =
-    let tb = c.args.tb in
-    (lies_next c.args.t.now c.loop.at c.loop.counter tb.rules tb.atoms tb.aggregates c.loop-test.true c.loop.invariant.0).0.heads.fits
+    let tb = c.args.t.now.places in
+    (lies_next c.args.t.now.words.now c.loop.at c.loop.counter tb.rules tb.atoms tb.aggregates c.loop-test.true c.loop.invariant.0).0.heads.fits
 
 pub makes_arcs-arcs-requires : goal.makes_arcs-arcs-requires
 makes_arcs-arcs-requires c =
-    let tb = c.args.tb in
-    let r = (lies_next c.args.t.now c.loop.at c.loop.counter tb.rules tb.atoms tb.aggregates c.loop-test.true c.loop.invariant.0).0 in
+    let tb = c.args.t.now.places in
+    let r = (lies_next c.args.t.now.words.now c.loop.at c.loop.counter tb.rules tb.atoms tb.aggregates c.loop-test.true c.loop.invariant.0).0 in
     (r.heads.fits, r.poss.fits)
 
 pub past_rule-at-requires : goal.past_rule-at-requires
 past_rule-at-requires c =
-    let tb = c.args.tb in
-    (lies_next c.args.t.now c.loop.at c.loop.counter tb.rules tb.atoms tb.aggregates c.loop-test.true c.loop.invariant.0).0.aggs.fits
+    let tb = c.args.t.now.places in
+    (lies_next c.args.t.now.words.now c.loop.at c.loop.counter tb.rules tb.atoms tb.aggregates c.loop-test.true c.loop.invariant.0).0.aggs.fits
 
 pub loop-preserved : goal.loop-preserved
 loop-preserved c =
-    let t = c.args.t.now in
-    let tb = c.args.tb in
+    let t = c.args.t.now.words.now in
+    let tb = c.args.t.now.places in
     let k = c.loop.counter in
     let e = c.past_rule-at.ensures in (
       subst (λ (j : ℕ). RulesLie tb.atoms tb.aggregates t j (tb.rules - (k + 1))) (sym e) (lies_next t c.loop.at k tb.rules tb.atoms tb.aggregates c.loop-test.true c.loop.invariant.0).1,
@@ -59,15 +59,15 @@ loop-preserved c =
 
 pub returns-then-two : goal.returns-then-two
 returns-then-two c =
-    let t = c.args.t.now in
-    let tb = c.args.tb in
+    let t = c.args.t.now.words.now in
+    let tb = c.args.t.now.places in
     let some = gathers_end wide t tb.first tb.rules c.loop.at c.loop.counter c.loop.two c.loop-test.false c.loop.invariant.1 in
     gathers_end makes_arcs t tb.first tb.rules c.loop.at c.loop.counter c.loop.arcs c.loop-test.false c.loop.invariant.2
     ∙ ap (λ (b : Bool). b && any makes_arcs (rules_from t tb.first tb.rules)) (sym c.if-two.true ∙ some)
 
 pub returns-else-two : goal.returns-else-two
 returns-else-two c =
-    let t = c.args.t.now in
-    let tb = c.args.tb in
+    let t = c.args.t.now.words.now in
+    let tb = c.args.t.now.places in
     let some = gathers_end wide t tb.first tb.rules c.loop.at c.loop.counter c.loop.two c.loop-test.false c.loop.invariant.1 in
     c.if-two.false ∙ ap (λ (b : Bool). b && any makes_arcs (rules_from t tb.first tb.rules)) (sym c.if-two.false ∙ some)

@@ -16,6 +16,6 @@ Gathers f t i₀ n i k b = any f (rules_from t i (n - k)) || b ≡ any f (rules_
 
 abbrev pub invariant-loop : goal.invariant-loop
 invariant-loop l =
-    RulesLie l.fn.tb.atoms l.fn.tb.aggregates l.t l.at (l.fn.tb.rules - l.counter)
-    × Gathers wide l.t l.fn.tb.first l.fn.tb.rules l.at l.counter l.two
-    × Gathers makes_arcs l.t l.fn.tb.first l.fn.tb.rules l.at l.counter l.arcs
+    RulesLie l.fn.t.places.atoms l.fn.t.places.aggregates l.t.words.now l.at (l.fn.t.places.rules - l.counter)
+    × Gathers wide l.t.words.now l.fn.t.places.first l.fn.t.places.rules l.at l.counter l.two
+    × Gathers makes_arcs l.t.words.now l.fn.t.places.first l.fn.t.places.rules l.at l.counter l.arcs

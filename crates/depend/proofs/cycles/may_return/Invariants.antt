@@ -8,5 +8,5 @@ use Rattle.depend.proofs.cycles.may_return.Given as goal
 
 abbrev pub invariant-loop : goal.invariant-loop
 invariant-loop l =
-    RulesLie l.fn.tb.atoms l.fn.tb.aggregates l.t l.at (l.fn.tb.rules - l.counter)
-    × (any adds_arcs (rules_from l.t l.at (l.fn.tb.rules - l.counter)) ≡ any adds_arcs (rules_from l.t l.fn.tb.first l.fn.tb.rules))
+    RulesLie l.fn.t.places.atoms l.fn.t.places.aggregates l.t.words.now l.at (l.fn.t.places.rules - l.counter)
+    × (any adds_arcs (rules_from l.t.words.now l.at (l.fn.t.places.rules - l.counter)) ≡ any adds_arcs (rules_from l.t.words.now l.fn.t.places.first l.fn.t.places.rules))

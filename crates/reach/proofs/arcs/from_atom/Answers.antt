@@ -18,21 +18,21 @@ use Rattle.reach.proofs.arcs.from_atom.Invariants.{aims}
 use Rattle.reach.proofs.arcs.from_atom.Goals as goal
 
 pub loop-at-init : goal.loop-at-init
-loop-at-init c = with_none (aims c.args.added c.args.t.now c.list-l.result.now) (row c.empty-all.result) c.empty-all.ensures
+loop-at-init c = with_none (aims c.args.added c.args.t.now.words.now c.list-l.result.now) (row c.empty-all.result) c.empty-all.ensures
 
 pub targets-next-requires : goal.targets-next-requires
 targets-next-requires c =
     let a = c.args in
-    let t = a.t.now in
-    let tb = a.tb in
-    let those : c.list-l.result.now ≡ with_head t a.p (places_of t tb) = c.list-l.ensures ∙ (c.requires.1.each a.p c.requires.2 c.requires.3).same in
-    let lie : AllLie tb t c.list-l.result.now = subst (AllLie tb t) (sym those) (with_lie tb t a.p (places_of t tb) (places_lie tb t tb.first tb.rules c.requires.0.rules_lie)) in
-    (c.requires.0, lie c.loop-at.at-index (omega arith))
+    let t = a.t.now.words.now in
+    let tb = a.t.now.places in
+    let those : c.list-l.result.now ≡ with_head t a.p (places_of t tb) = c.list-l.ensures ∙ (c.requires.0.each a.p c.requires.1 c.requires.2).same in
+    let lie : AllLie tb t c.list-l.result.now = subst (AllLie tb t) (sym those) (with_lie tb t a.p (places_of t tb) (places_lie tb t tb.first tb.rules c.args.t.now.laid.rules_lie)) in
+    lie c.loop-at.at-index (omega arith)
 
 pub loop-at-preserved : goal.loop-at-preserved
 loop-at-preserved c =
     let a = c.args in
-    let t = a.t.now in
+    let t = a.t.now.words.now in
     let l = c.list-l.result.now in
     let i = c.loop-at.at-index in
     let S = row c.loop-at.all in
@@ -43,9 +43,9 @@ loop-at-preserved c =
 pub returns : goal.returns
 returns c =
     let a = c.args in
-    let t = a.t.now in
+    let t = a.t.now.words.now in
     let l = c.list-l.result.now in
     let f : ℕ → ℕ → Bool = λ q j. targets a.added (rule_at t j) q in
-    let those : l ≡ with_head t a.p (places_of t a.tb) = c.list-l.ensures ∙ (c.requires.1.each a.p c.requires.2 c.requires.3).same in
+    let those : l ≡ with_head t a.p (places_of t a.t.now.places) = c.list-l.ensures ∙ (c.requires.0.each a.p c.requires.1 c.requires.2).same in
     fun_ext (λ q. none (row c.loop-at.all) q _ (places_end l c.loop-at.at-index (f q) (omega arith))) ∙ c.loop-at.invariant
-    ∙ fun_ext (λ q. ap (any (f q)) those ∙ arcs_by_head a.added t a.tb a.p q)
+    ∙ fun_ext (λ q. ap (any (f q)) those ∙ arcs_by_head a.added t a.t.now.places a.p q)

@@ -17,4 +17,4 @@ abbrev pub aims : Bool → List ℤ → List ℕ → Levels
 aims added t l = λ q. any (λ (j : ℕ). targets added (rule_at t j) q) l
 
 abbrev pub invariant-loop-at : goal.invariant-loop-at
-invariant-loop-at l = union (aims l.added l.t (drop l.at-index l.l)) (row l.all) ≡ aims l.added l.t l.l
+invariant-loop-at l = union (aims l.added l.t.words.now (drop l.at-index l.l)) (row l.all) ≡ aims l.added l.t.words.now l.l

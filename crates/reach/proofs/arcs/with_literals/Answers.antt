@@ -18,12 +18,12 @@ pub with_pairs-next-requires : goal.with_pairs-next-requires
 with_pairs-next-requires c =
     let j = c.size.result in
     let e : j ≡ nat_abs (get_or c.args.l.now c.loop-w.w-index (pos 0)) = search rules in
-    let h : (1 ≤ j) × (j ≤ c.args.tb.aggregates) = rw e (c.requires.1 _ (omega arith)) in
-    subst (Elements 256) (sym c.elements_of-pairs.ensures) (elements_laid c.args.t.now c.args.tb c.requires.0 j h.0 h.1)
+    let h : (1 ≤ j) × (j ≤ c.args.t.now.places.aggregates) = rw e (c.requires _ (omega arith)) in
+    subst (Elements 256) (sym c.elements_of-pairs.ensures) (elements_laid c.args.t.now.words.now c.args.t.now.places c.args.t.now.laid j h.0 h.1)
 
 pub loop-w-preserved : goal.loop-w-preserved
 loop-w-preserved c =
-    let t = c.args.t.now in
+    let t = c.args.t.now.words.now in
     let l = c.args.l.now in
     let i = c.loop-w.w-index in
     let S = row c.loop-w.all in
@@ -34,4 +34,4 @@ loop-w-preserved c =
     ∙ sym (literals_on t l i S (omega arith)) ∙ c.loop-w.invariant
 
 pub returns : goal.returns
-returns c = literals_end c.args.t.now c.args.l.now c.loop-w.w-index (row c.loop-w.all) (omega arith) ∙ c.loop-w.invariant
+returns c = literals_end c.args.t.now.words.now c.args.l.now c.loop-w.w-index (row c.loop-w.all) (omega arith) ∙ c.loop-w.invariant

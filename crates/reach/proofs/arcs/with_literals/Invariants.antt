@@ -7,4 +7,4 @@ use Rattle.reach.specs.Arcs.{literals}
 use Rattle.reach.proofs.arcs.with_literals.Given as goal
 
 abbrev pub invariant-loop-w : goal.invariant-loop-w
-invariant-loop-w l = union (literals l.t (drop l.w-index l.l)) (row l.all) ≡ union (literals l.t l.l) (row l.initial.all)
+invariant-loop-w l = union (literals l.t.words.now (drop l.w-index l.l)) (row l.all) ≡ union (literals l.t.words.now l.l) (row l.initial.all)

@@ -15,16 +15,16 @@ shared_ref_as_front-back c =
 
 pub back-round-requires : goal.back-round-requires
 back-round-requires c =
-    let standing : let a = c.args in Reached (arcs_of a.added (program_of a.t.now a.tb)) a.p c.visit-seen.new.list c.visit-seen.result.count =
+    let standing : let a = c.args in Reached (arcs_of a.added (program_of a.t.now.words.now a.t.now.places)) a.p c.visit-seen.new.list c.visit-seen.result.count =
     let a = c.args in
     let v = c.visit-seen in
-    reached_of (arcs_of a.added (program_of a.t.now a.tb)) a.p (row v.result.marks) v.new.list v.result.count v.ensures in
-    (c.requires.0, c.requires.1, c.requires.2, c.requires.3, reached_slice _ _ _ _ c.visit-seen.ensures.queue.sized standing)
+    reached_of (arcs_of a.added (program_of a.t.now.words.now a.t.now.places)) a.p (row v.result.marks) v.new.list v.result.count v.ensures in
+    (c.requires.0, c.requires.1, c.requires.2, reached_slice _ _ _ _ c.visit-seen.ensures.queue.sized standing)
 
 pub returns : goal.returns
 returns c =
-    let standing : let a = c.args in Reached (arcs_of a.added (program_of a.t.now a.tb)) a.p c.visit-seen.new.list c.visit-seen.result.count =
+    let standing : let a = c.args in Reached (arcs_of a.added (program_of a.t.now.words.now a.t.now.places)) a.p c.visit-seen.new.list c.visit-seen.result.count =
     let a = c.args in
     let v = c.visit-seen in
-    reached_of (arcs_of a.added (program_of a.t.now a.tb)) a.p (row v.result.marks) v.new.list v.result.count v.ensures in
+    reached_of (arcs_of a.added (program_of a.t.now.words.now a.t.now.places)) a.p (row v.result.marks) v.new.list v.result.count v.ensures in
     (c.back-round.ensures, standing)

@@ -14,7 +14,7 @@ pub loop-q-preserved : goal.loop-q-preserved
 loop-q-preserved c =
     let a = c.args in
     let l = a.list.now in
-    let R = arcs_of a.added (program_of a.t.now a.tb) in
+    let R = arcs_of a.added (program_of a.t.now.words.now a.t.now.places) in
     let old = c.loop-q.all in
     let new = c.led-all.result in
     let i = length c.loop-q.q-iterator.iter.rest.now in

@@ -10,5 +10,5 @@ use Rattle.reach.proofs.back.walk.Given as goal
 abbrev pub invariant-loop-q : goal.invariant-loop-q
 invariant-loop-q l = let left = l.q-iterator.iter.rest.now in record {
   front : left ≡ take (length left) l.list;
-  walked : Walked (arcs_of l.added (program_of l.t l.tb)) l.list (length left) (length l.list) (row l.initial.all.marks) l.initial.all.count (row l.all.marks) l.all.count;
+  walked : Walked (arcs_of l.added (program_of l.t.words.now l.t.places)) l.list (length left) (length l.list) (row l.initial.all.marks) l.initial.all.count (row l.all.marks) l.all.count;
 }

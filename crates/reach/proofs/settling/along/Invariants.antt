@@ -6,4 +6,4 @@ use Rattle.reach.specs.Visits.{Settling}
 use Rattle.reach.proofs.settling.along.Given as goal
 
 abbrev pub invariant-loop-i : goal.invariant-loop-i
-invariant-loop-i l = Settling (arcs_of l.added (program_of l.t l.tb)) (row l.initial.all) (row l.all)
+invariant-loop-i l = Settling (arcs_of l.added (program_of l.t.words.now l.t.places)) (row l.initial.all) (row l.all)

@@ -6,4 +6,4 @@ use Rattle.reach.specs.Visits.{Settling}
 use Rattle.reach.proofs.settling.down.Given as goal
 
 abbrev pub invariant-loop-p : goal.invariant-loop-p
-invariant-loop-p l = Settling (arcs_of l.added (program_of l.t l.tb)) (row l.initial.all) (row l.all)
+invariant-loop-p l = Settling (arcs_of l.added (program_of l.t.words.now l.t.places)) (row l.initial.all) (row l.all)

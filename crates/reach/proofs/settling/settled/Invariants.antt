@@ -6,4 +6,4 @@ use Rattle.reach.specs.Visits.{Settled}
 use Rattle.reach.proofs.settling.settled.Given as goal
 
 abbrev pub invariant-loop : goal.invariant-loop
-invariant-loop l = Settled (arcs_of l.added (program_of l.t l.tb)) (row l.all)
+invariant-loop l = Settled (arcs_of l.added (program_of l.t.words.now l.t.places)) (row l.all)
