@@ -30,24 +30,19 @@ pub struct Places {
     pub end: Cursor,
 }
 
-// The section of the rules, whose count stands at `i`, and the end of the table.
-fn finish(
-    t: &[i32],
-    i: Cursor,
-    atoms: usize,
-    aggregates: usize,
-    starts: [u16; Table::AGGREGATES],
-) -> Result<Table, Refusal>
-    ensures { result ≡ finished atoms aggregates starts i (run (rules atoms aggregates) i (drop i t.now)) }
+// The section of the rules, whose count stands past the aggregates, and the end of the table.
+fn finish(t: &[i32], atoms: usize, places: Places) -> Result<Table, Refusal>
+    ensures { result ≡ finished atoms places.number places.starts places.end (run (rules atoms places.number) places.end (drop places.end t.now)) }
 {
-    let (number, first) = count_at(t, i, Table::RULES)?;
-    let end = rules_at(t, first, number, atoms, aggregates)?;
+    let (number, first) = count_at(t, places.end, Table::RULES)?;
+    let end = rules_at(t, first, number, atoms, places.number)?;
     if end < t.len() {
         return Err(Refusal::Trailing(end));
     }
+    let starts = places.starts;
     Ok(Table {
         atoms,
-        aggregates,
+        aggregates: places.number,
         rules: number,
         first,
         starts,
@@ -64,5 +59,5 @@ pub fn read(words: &[i32]) -> Result<Table, Refusal>
     let start = Table::start();
     let (atoms, next) = count_at(words, start, Table::ATOMS)?;
     let places = aggregates_at(words, next, atoms)?;
-    finish(words, places.end, atoms, places.number, places.starts)
+    finish(words, atoms, places)
 }

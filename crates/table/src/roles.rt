@@ -12,11 +12,10 @@ use results::Refusal;
 pub fn word_at(t: &[i32], i: Cursor) -> Result<(i32, Cursor), Refusal>
     ensures { result ≡ word_of i (drop i t.now) }
 {
-    if i < t.len() {
-        let next = i + 1;
-        return Ok((t[i], next));
+    match t.get(i) {
+        Some(w) => Ok((*w, i + 1)),
+        None => Err(Refusal::Absent(i)),
     }
-    Err(Refusal::Absent(i))
 }
 
 // A count of 0 to `most` at `i`.
