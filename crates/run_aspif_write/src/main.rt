@@ -5,5 +5,9 @@
 use std::io;
 
 fn main(rt: HostRuntime) -> io::Result<()> {
-    printed::write_all(&rt, &mut rt.stdin(), &|words, out| aspif_write::write(words, out))
+    printed::write_all(
+        &rt,
+        &mut rt.stdin(),
+        &|words, out| aspif_write::write(words, out),
+    )
 }
