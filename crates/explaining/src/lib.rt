@@ -45,6 +45,7 @@ pub fn all_earlier(l: &[i32], marks: &[Why; 256], round: u16) -> bool
 }
 
 // The word of the rule at `at`: the candidate that it is, or 0 where it adds nothing.
+// Stays: the words stand in the array of candidates that the C interface lends, and a rule that adds nothing has its place there too.
 pub fn code(t: &[i32], tb: Table, at: usize, values: &[u8; 256]) -> u32
     requires { Laid t.now tb × RuleLies tb.atoms tb.aggregates t.now at }
     ensures { result ≡ code_by (could_of (valued values.now) (rule_at t.now at)) (pos_at t.now at) }

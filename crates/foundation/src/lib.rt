@@ -20,6 +20,7 @@ use layout::Table;
 use rules::Step;
 
 // Where the candidates stand: a word for each rule. A caller lends it to the test, which writes before it reads.
+// Stays: a candidate is a place and an atom in one word, as the C interface has it: `candidates` is an array of `uint32_t` in its header.
 pub type Candidates = [u32; Table::RULES];
 
 pub fn is_true(values: &[u8; 256], p: usize) -> bool
