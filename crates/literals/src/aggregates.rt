@@ -64,6 +64,7 @@ pub fn weight(count: bool, v: usize) -> usize
 }
 
 // x or nothing.
+// Stays: the library's `on.then_some(x).unwrap_or(0)` is no plainer.
 pub fn part(on: bool, x: usize) -> usize
     ensures { result ≡ part_of on x }
 {

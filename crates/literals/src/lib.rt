@@ -66,8 +66,10 @@ pub fn false_atom(l: &[i32], sign: bool, values: &[u8; 256]) -> Option<usize>
     requires { Members 256 l.now }
     ensures { result ≡ first_false (valued values.now) (atom_lits sign l.now) }
 {
-    l.iter().position(|w| signed(sign, interpretation::value_of(values, words::size(*w)))
-        == Value::False)
+    l.iter().position(|w| {
+        let v = interpretation::value_of(values, words::size(*w));
+        signed(sign, v) == Value::False
+    })
 }
 
 // The reason of atom p joined to a set.

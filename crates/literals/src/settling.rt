@@ -16,6 +16,7 @@ use crate::aggregates;
 use meaning::{Comparison, Function};
 
 // A walk over the elements that are true (or false): whether a run of them settles the aggregate; the reasons of that run, or of all of them.
+// Stays: both cases hold a set, and as a Result the reasons of all would be an error that none is.
 #[derive(Clone, Copy)]
 pub struct Run {
     pub settled: bool,
