@@ -7,38 +7,29 @@ ghost use Rattle.plain.specs.Promise.{plain_counts, Plainly};
 ghost use Rattle.plain.specs.Plain.{Ready, Sided, Chosen, Testable, Tests};
 
 use heads::Lists;
-use interpretation::Choice;
 use judging::Buffer;
 use layout::Table;
 use passes::Side;
-use results::{Ask, Solved};
+use results::{Ask, Refusal, Solved};
 use second_search::Tested;
-use table::Fault;
 
 mod passes;
 
 // The night's plan by the plain search: an answer, none or limit with the choices, and no skips; or a refusal. Only an answer writes, and only the bytes
 // of the table's own atoms. "Search: propagate", with no atom defined.
-pub fn solve(words: &[i32], ask: Ask, plan: &mut [u8]) -> Solved
+pub fn solve(words: &[i32], ask: Ask, plan: &mut [u8]) -> Result<Solved, Refusal>
     ensures { Plainly words.now ask plan.old plan.new result }
 {
     let mut lists = [0u16; heads::SIZE];
-    let judged = judging::judge_in(words, ask.cycles, Buffer::Plan(plan.len()), &mut lists);
-    let fault = judged.fault;
-    match fault {
-        Fault::Refused(f) => Solved::Refused(f),
-        Fault::Nothing => {
-            let tb = judged.table;
-            let start = Side {
-                values: [0u8; 256],
-                choices: 0,
-                changed: false,
-                conflict: false,
-            };
-            let side = passes::propagate(words, tb, &lists, start);
-            choose(words, tb, ask, &lists, side, plan)
-        }
-    }
+    let tb = judging::judge_in(words, ask.cycles, Buffer::Plan(plan.len()), &mut lists)?;
+    let start = Side {
+        values: [0u8; 256],
+        choices: 0,
+        changed: false,
+        conflict: false,
+    };
+    let side = passes::propagate(words, tb, &lists, start);
+    Ok(choose(words, tb, ask, &lists, side, plan))
 }
 
 // Opens a choice: "at the limit, end with limit; else open one more level with the lowest undefined atom true .. this is one choice". A side that ends in a
@@ -51,7 +42,7 @@ fn choose(t: &[i32], tb: Table, ask: Ask, lists: &Lists, side: Side, plan: &mut 
     if side.conflict {
         return Solved::Nothing(counted(side.choices));
     }
-    if let Choice::Atom(p) = second_search::lowest_undefined(&side.values, tb.atoms) {
+    if let Some(p) = interpretation::lowest_undefined(&side.values, tb.atoms) {
         if ask.limit <= side.choices {
             return Solved::Limit(counted(side.choices));
         }

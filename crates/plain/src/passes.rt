@@ -70,8 +70,7 @@ fn rule_steps(t: &[i32], tb: Table, mut side: Side) -> Side
     ensures { Comes side result (rule_pass (program_of t.now tb) (work_of side)) }
 {
     let mut at = tb.first;
-    let mut left = tb.rules;
-    while 0 < left {
+    for _rule in 0..tb.rules {
         let step = rules::demand(t, tb, at, &side.values);
         match step {
             rules::Step::Nothing => {}
@@ -85,7 +84,6 @@ fn rule_steps(t: &[i32], tb: Table, mut side: Side) -> Side
             rules::Step::Set(p, v) => side = side.set(p, v),
         }
         at = layout::past_rule(t, at);
-        left -= 1;
     }
     side
 }
@@ -95,9 +93,7 @@ fn atom_steps(t: &[i32], tb: Table, lists: &Lists, mut side: Side) -> Side
     requires { Laid t.now tb × Listed t.now tb lists.now × (side.conflict ≡ false) }
     ensures { Comes side result (atom_pass (program_of t.now tb) tb.atoms 1 (work_of side)) }
 {
-    let n = tb.atoms;
-    let mut p: usize = 1;
-    while p <= n {
+    for p in 1..tb.atoms + 1 {
         let ask = support::asked(t, tb, lists, p, &side.values);
         match ask {
             support::Ask::Nothing => {}
@@ -111,7 +107,6 @@ fn atom_steps(t: &[i32], tb: Table, lists: &Lists, mut side: Side) -> Side
             // e. p is true and one rule supports it.
             support::Ask::Sole(at) => side = forced_by(t, tb, at, side),
         }
-        p += 1;
     }
     side
 }
@@ -121,11 +116,8 @@ fn forced_by(t: &[i32], tb: Table, at: usize, mut side: Side) -> Side
     requires { Laid t.now tb × RuleLies tb.atoms tb.aggregates t.now at }
     ensures { Comes side result (step_e (some (rule_at t.now at)) no_levels (work_of side)) }
 {
-    loop {
-        let next = support::forced(t, tb, at, &side.values);
-        match next {
-            support::Next::Nothing => return side,
-            support::Next::Set(p, v) => side = side.set(p, v),
-        }
+    while let Some((p, v)) = support::forced(t, tb, at, &side.values) {
+        side = side.set(p, v);
     }
+    side
 }
