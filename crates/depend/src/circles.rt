@@ -90,12 +90,12 @@ pub fn find_one(
     let these = round.marks;
     let n = t.places.atoms;
     name(these, n, q, names);
-    let many = round.count;
+    let reached = &list[..round.count];
     let all = levels::union(these, settled);
-    if marks::listed_in(&list, many, all) {
+    if marks::listed_in(reached, all) {
         return all;
     }
-    settling::along(t, lists, added, &list, many, settled)
+    settling::along(t, lists, added, reached, settled)
 }
 
 // The circles of all atoms named.

@@ -114,12 +114,11 @@ pub fn put(to: [u64; 4], n: usize, seen: Marked, list: &mut [u8; 256]) -> Marked
     all
 }
 
-// Whether all of the first atoms of a list are in a set.
-pub fn listed_in(list: &[u8; 256], many: usize, set: [u64; 4]) -> bool
-    requires { (many ≤ 256) × ((i : ℕ) → i < many → get_or list.now i 0 < 256) }
-    ensures { result ≡ true → (i : ℕ) → i < many → Is (row set (suc (get_or list.now i 0))) }
+// Whether all atoms of a list are in a set.
+pub fn listed_in(list: &[u8], set: [u64; 4]) -> bool
+    ensures { result ≡ true → (i : ℕ) → i < length list.now → Is (row set (suc (get_or list.now i 0))) }
 {
-    for q in &list[..many] {
+    for q in list {
         if !levels::has(set, *q as usize + 1) {
             return false;
         }

@@ -1,6 +1,6 @@
 // Atoms that surely lie on no cycle: those whose arcs all go to atoms settled before, and to none else. Walks over all atoms find most of them at once where there is no
 // cycle; how many walks are made is bounded, since what is left unsettled is visited. Meaning: `specs/Visits.antt`.
-ghost use Rattle.std.specs.Prelude.{◌≡◌, true, ℕ, ◌≤◌, ◌<◌, get_or};
+ghost use Rattle.std.specs.Prelude.{◌≡◌, true, ℕ, ◌≤◌, ◌<◌, length, get_or};
 ghost use Rattle.layout.specs.Accepted.{program_in, rule_in, RuleIn};
 ghost use Rattle.layout.specs.Layout.{program_of};
 ghost use Rattle.heads.specs.Heads.{Listed};
@@ -61,21 +61,20 @@ pub fn up(t: &Accepted, lists: &Lists, added: bool, done: [u64; 4]) -> [u64; 4]
     all
 }
 
-// A walk over the first atoms of a list, from the last to the first: where an atom was found from another one, it comes before it.
+// A walk over the atoms of a list, from the last to the first: where an atom was found from another one, it comes before it.
 pub fn along(
     t: &Accepted,
     lists: &Lists,
     added: bool,
-    list: &[u8; 256],
-    many: usize,
+    list: &[u8],
     done: [u64; 4],
 ) -> [u64; 4]
-    requires { Listed t.now.words.now t.now.places lists.now × (many ≤ 256) × ((i : ℕ) → i < many → get_or list.now i 0 < t.now.places.atoms) × Closed (arcs_of added (program_in t.now)) (row done) }
+    requires { Listed t.now.words.now t.now.places lists.now × ((i : ℕ) → i < length list.now → get_or list.now i 0 < t.now.places.atoms) × Closed (arcs_of added (program_in t.now)) (row done) }
     ensures { Settling (arcs_of added (program_in t.now)) (row done) (row result) }
 {
     let mut all = done;
-    for i in (0..many).rev() {
-        let next = settle(t, lists, added, list[i] as usize + 1, all);
+    for p in list.iter().rev() {
+        let next = settle(t, lists, added, *p as usize + 1, all);
         all = next;
     }
     all
