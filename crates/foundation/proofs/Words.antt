@@ -84,56 +84,38 @@ fits_other a p h n = ap (λ (b : Bool). not (truth_of (a h)) || b) (contra (eqb 
 
 -- ---- marks
 
-pub marked_suc : (ms : List ℕ) (i : ℕ) → marked ms (suc i) ≡ not (eqb (get_or ms i 0) 0)
+pub marked_suc : (ms : List Bool) (i : ℕ) → marked ms (suc i) ≡ get_or ms i false
 unfolding marked
 marked_suc ms i = refl
 
-pub marked_zero : (ms : List ℕ) → marked ms 0 ≡ false
+pub marked_zero : (ms : List Bool) → marked ms 0 ≡ false
 unfolding marked
 marked_zero ms = refl
 
-pub marked_at : (ms : List ℕ) (p : ℕ) → 1 ≤ p → marked ms p ≡ not (eqb (get_or ms (p - 1) 0) 0)
+pub marked_at : (ms : List Bool) (p : ℕ) → 1 ≤ p → marked ms p ≡ get_or ms (p - 1) false
 marked_at ms p h = let e : p ≡ suc (p - 1) = omega arith in ap (marked ms) e ∙ marked_suc ms (p - 1)
 
-pub marked_set : (ms : List ℕ) (p : ℕ) → 1 ≤ p → p - 1 < length ms → marked (set ms (p - 1) 1) ≡ with_atom p (marked ms)
-marked_set ms p h k = fun_ext (λ q. at q)
+-- that of the atom at index i
+pub marked_next : (ms : List Bool) (i : ℕ) → marked ms (i + 1) ≡ get_or ms i false
+marked_next ms i = ap (marked ms) (add-one i) ∙ marked_suc ms i
+
+pub marked_with : (ms : List Bool) (i : ℕ) → i < length ms → marked (set ms i true) ≡ with_atom (i + 1) (marked ms)
+marked_with ms i h = fun_ext (λ q. at q (eq_case q (i + 1)))
   where
-    other : (i : ℕ) → suc i ≢ p → marked (set ms (p - 1) 1) (suc i) ≡ marked ms (suc i)
-    other i n =
-        let m : i ≢ p - 1 = λ e. n (omega arith) in
-        marked_suc (set ms (p - 1) 1) i ∙ ap (λ (v : ℕ). not (eqb v 0)) (get_or-set_other ms (p - 1) i 1 0 m) ∙ sym (marked_suc ms i)
+    at : (q : ℕ) → (q ≡ i + 1) ⊎ (q ≢ i + 1) → marked (set ms i true) q ≡ with_atom (i + 1) (marked ms) q
+    at q (inl e) = ap (marked (set ms i true)) e ∙ marked_next (set ms i true) i ∙ get_or-set_same ms i true false h ∙ sym (if_eq_yes q (i + 1) true (marked ms q) e)
+    at zero (inr n) = marked_zero (set ms i true) ∙ sym (marked_zero ms) ∙ sym (if_eq_no 0 (i + 1) true (marked ms 0) n)
+    at (suc j) (inr n) =
+        let m : j ≢ i = λ e. n (omega arith) in
+        marked_suc (set ms i true) j ∙ get_or-set_other ms i j true false m ∙ sym (marked_suc ms j) ∙ sym (if_eq_no (suc j) (i + 1) true (marked ms (suc j)) n)
 
-    same : (q : ℕ) → q ≡ p → marked (set ms (p - 1) 1) q ≡ true
-    same q e =
-        ap (marked (set ms (p - 1) 1)) e ∙ marked_at (set ms (p - 1) 1) p h ∙ ap (λ (v : ℕ). not (eqb v 0)) (get_or-set_same ms (p - 1) 1 0 k)
-
-    pick : (q : ℕ) → (q ≡ p) ⊎ (q ≢ p) → marked (set ms (p - 1) 1) q ≡ with_atom p (marked ms) q
-    pick q (inl e) = same q e ∙ sym (if_eq_yes q p true (marked ms q) e)
-    pick zero (inr n) = marked_zero (set ms (p - 1) 1) ∙ sym (marked_zero ms) ∙ sym (if_eq_no 0 p true (marked ms 0) n)
-    pick (suc i) (inr n) = other i n ∙ sym (if_eq_no (suc i) p true (marked ms (suc i)) n)
-
-    at : (q : ℕ) → marked (set ms (p - 1) 1) q ≡ with_atom p (marked ms) q
-    at q = pick q (eq_case q p)
-
--- the byte at index i is that of atom i + 1
-pub marked_no : (ms : List ℕ) (i : ℕ) → get_or ms i 0 ≡ 0 → marked ms (i + 1) ≡ false
-marked_no ms i e = ap (marked ms) (add-one i) ∙ marked_suc ms i ∙ ap not (eq_i e)
-
-pub marked_yes : (ms : List ℕ) (i : ℕ) → get_or ms i 0 ≢ 0 → marked ms (i + 1) ≡ true
-marked_yes ms i n = ap (marked ms) (add-one i) ∙ marked_suc ms i ∙ ap not (contra (eqb (get_or ms i 0) 0) {b = false} (λ k. absurd (n (eq (get_or ms i 0) 0 k))) refl)
-
-pub marked_with : (ms : List ℕ) (i : ℕ) → i < length ms → marked (set ms i 1) ≡ with_atom (i + 1) (marked ms)
-marked_with ms i h =
-    let e : i ≡ i + 1 - 1 = omega arith in
-    ap (λ (j : ℕ). marked (set ms j 1)) e ∙ marked_set ms (i + 1) (omega arith) (omega arith)
-
-pub marked_none : (n p : ℕ) → marked (replicate n 0) p ≡ false
-marked_none n zero = marked_zero (replicate n 0)
-marked_none n (suc i) = marked_suc (replicate n 0) i ∙ ap (λ (v : ℕ). not (eqb v 0)) (at (lt_case i n))
+pub marked_none : (n p : ℕ) → marked (replicate n false) p ≡ false
+marked_none n zero = marked_zero (replicate n false)
+marked_none n (suc i) = marked_suc (replicate n false) i ∙ at (lt_case i n)
   where
-    at : (i < n) ⊎ (n ≤ i) → ◌≡◌ {A = ℕ} (get_or (replicate n 0) i 0) 0
-    at (inl h) = get_or-replicate n i 0 0 h
-    at (inr h) = let e = length-replicate {A = ℕ} n 0 in get_or-eq_default (replicate n 0) 0 (omega arith)
+    at : (i < n) ⊎ (n ≤ i) → ◌≡◌ {A = Bool} (get_or (replicate n false) i false) false
+    at (inl h) = get_or-replicate n i false false h
+    at (inr h) = let e = length-replicate {A = Bool} n false in get_or-eq_default (replicate n false) false (omega arith)
 
 -- ---- an array at whose first places a list stands
 

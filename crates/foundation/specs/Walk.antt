@@ -1,7 +1,7 @@
 -- The foundedness test as the code walks over the rules (01, "Reasons and jumps": "starting from none, repeatedly add p if some rule has body true, p its only
 -- true head atom and all positive body atoms added"). Definitions only; they need not be believed: the contract of `founded` speaks of `meaning`'s
 -- test, and `proofs/` ties the two.
---   marked ms        the atoms that the marks stand for: atom p's at index p - 1, any byte but 0 marks it
+--   marked ms        the atoms that the marks stand for: atom p's at index p - 1
 --   sole_of a ps      the only true atom of a head;  rest_true: negated atoms and aggregate literals are true
 --   could_of a r      the atom that rule r adds once its positive atoms are marked
 --   code_of j p       a candidate, a rule that could add atom p, as one word; the list of its positive atoms begins at j
@@ -23,9 +23,9 @@ use Rattle.literals.specs.Scan.{first_false}
 use Rattle.rules.specs.Demand.{together, asks, is_conflict}
 use Rattle.layout.specs.Layout.{atoms, part_at, pos_at, past_rule, rule_at, Listed}
 
-unfoldable pub marked : List ℕ → Atoms
+unfoldable pub marked : List Bool → Atoms
 marked ms zero = false
-marked ms (suc i) = not (eqb (get_or ms i 0) 0)
+marked ms (suc i) = get_or ms i false
 
 -- h is false, or it is p
 abbrev pub fits : (ℕ → Cell) → ℕ → ℕ → Bool
@@ -117,5 +117,5 @@ walk_left t [] G = []
 walk_left t (c ∷ l) G = left_by (G (atom_of c)) (all G (positives t c)) c (walk_left t l (marks_past t c G))
 
 -- what is marked is what gets added
-abbrev pub MarksAdded : List ℕ → Program → Atoms → Type 0
+abbrev pub MarksAdded : List Bool → Program → Atoms → Type 0
 MarksAdded ms P X = (p : ℕ) → Is (marked ms p) ↔ Added P X p

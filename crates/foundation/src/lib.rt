@@ -1,6 +1,6 @@
 // The foundedness test and the test for a model, on the table's words under values that define every atom (01, "Reasons and jumps": "starting from
 // none, repeatedly add p if some rule has body true, p its only true head atom and all positive body atoms added. All true atoms added: answer").
-// Added atoms are marked in an array of bytes, atom p at index p - 1. The values do not change during the test, so the rules that can add an atom at all, the
+// Added atoms are marked in an array, atom p at index p - 1. The values do not change during the test, so the rules that can add an atom at all, the
 // candidates, are found once. A candidate is one word: the index at which the list of its positive atoms begins, times 256, plus the index of its
 // atom's mark. Meaning: crate `meaning`; how the candidates are walked: `specs/Walk.antt`. Memory: a word of 32 bits for each rule (1,024 at most), a byte
 // for each atom (256 at most).
@@ -30,16 +30,15 @@ pub fn is_true(values: &[u8; 256], p: usize) -> bool
     interpretation::value_of(values, p) == Value::True
 }
 
-pub fn is_marked(marks: &[u8; 256], p: usize) -> bool
+pub fn is_marked(marks: &[bool; 256], p: usize) -> bool
     requires { (1 ≤ p) × (p ≤ 256) }
     ensures { result ≡ marked marks.now p }
 {
-    let i = p - 1;
-    marks[i] != 0
+    marks[p - 1]
 }
 
 // All atoms of a list are marked.
-pub fn all_marked(l: &[i32], marks: &[u8; 256]) -> bool
+pub fn all_marked(l: &[i32], marks: &[bool; 256]) -> bool
     requires { Members 256 l.now }
     ensures { result ≡ all (marked marks.now) (atoms l.now) }
 {
@@ -112,7 +111,7 @@ pub fn collect(t: &[i32], tb: Table, values: &[u8; 256], list: &mut [u32]) -> us
 }
 
 // All positive atoms of a candidate are marked.
-pub fn is_ready(t: &[i32], c: u32, marks: &[u8; 256]) -> bool
+pub fn is_ready(t: &[i32], c: u32, marks: &[bool; 256]) -> bool
     requires { Listed 256 t.now (place_of c) }
     ensures { result ≡ all (marked marks.now) (positives t.now c) }
 {
@@ -123,7 +122,7 @@ pub fn is_ready(t: &[i32], c: u32, marks: &[u8; 256]) -> bool
 
 // One walk over the first `number` candidates: each atom that one adds is marked at once. Those whose atom is not marked when the walk has passed
 // them are left, and written from index 0 on; the others have nothing more to add. The result is the number of those left.
-pub fn walk(t: &[i32], number: usize, list: &mut [u32], marks: &mut [u8; 256]) -> usize
+pub fn walk(t: &[i32], number: usize, list: &mut [u32], marks: &mut [bool; 256]) -> usize
     requires { Fit t.now (take number list.old) × (number ≤ 1024) × (length list.old ≡ 1024) }
     ensures { (marked marks.new ≡ walk_marks t.now (take number list.old) (marked marks.old))
         × Stands (walk_left t.now (take number list.old) (marked marks.old)) list.new result }
@@ -132,9 +131,9 @@ pub fn walk(t: &[i32], number: usize, list: &mut [u32], marks: &mut [u8; 256]) -
     for k in 0..number {
         let c = list[k];
         let i = (c % 256) as usize;
-        if marks[i] == 0 {
+        if !marks[i] {
             if is_ready(t, c, marks) {
-                marks[i] = 1;
+                marks[i] = true;
             } else {
                 list[left] = c;
                 left += 1;
@@ -145,12 +144,12 @@ pub fn walk(t: &[i32], number: usize, list: &mut [u32], marks: &mut [u8; 256]) -
 }
 
 // The atoms that get added: walks repeat until one leaves all candidates.
-pub fn added(t: &[i32], tb: Table, values: &[u8; 256], list: &mut Candidates) -> [u8; 256]
+pub fn added(t: &[i32], tb: Table, values: &[u8; 256], list: &mut Candidates) -> [bool; 256]
     requires { Laid t.now tb × AllDefined tb.atoms (valued values.now) }
     ensures { MarksAdded result (program_of t.now tb) (true_atoms tb.atoms (valued values.now)) }
 {
     let mut number = collect(t, tb, values, list);
-    let mut marks = [0u8; 256];
+    let mut marks = [false; 256];
     loop {
         let left = walk(t, number, list, &mut marks);
         if left == number {
@@ -161,7 +160,7 @@ pub fn added(t: &[i32], tb: Table, values: &[u8; 256], list: &mut Candidates) ->
 }
 
 // Atom p is false, or it is marked.
-pub fn is_covered(p: usize, values: &[u8; 256], marks: &[u8; 256]) -> bool
+pub fn is_covered(p: usize, values: &[u8; 256], marks: &[bool; 256]) -> bool
     requires { (1 ≤ p) × (p ≤ 256) }
     ensures { result ≡ covers (valued values.now) (marked marks.now) p }
 {
@@ -169,7 +168,7 @@ pub fn is_covered(p: usize, values: &[u8; 256], marks: &[u8; 256]) -> bool
 }
 
 // All true atoms of 1 to n are marked.
-pub fn all_covered(n: usize, values: &[u8; 256], marks: &[u8; 256]) -> bool
+pub fn all_covered(n: usize, values: &[u8; 256], marks: &[bool; 256]) -> bool
     requires { n ≤ 256 }
     ensures { result ≡ all (covers (valued values.now) (marked marks.now)) (atoms_to n) }
 {

@@ -12,10 +12,10 @@ use lib.ListN.{length, length-set, get_or, set, take}
 use Rattle.meaning.specs.Lists.{◌∈◌, all}
 use Rattle.meaning.specs.Aggregates.{Atoms}
 use Rattle.foundation.specs.Walk.{marked, atom_of, positives, Fit, with_atom, marks_by, left_by, walk_marks, walk_left}
-use Rattle.foundation.proofs.Words.{marked_no, marked_yes, marked_with, grown, stands_i, rest, rest_on, rest_end, rest_set}
+use Rattle.foundation.proofs.Words.{marked_next, marked_with, grown, stands_i, rest, rest_on, rest_end, rest_set}
 use Rattle.foundation.proofs.Walks.{marks_on, left_on, marks_nil, left_nil}
 use Rattle.foundation.proofs.walk.Goals as goal
-use Rattle.foundation.proofs.walk.Goals.{then-marks-i-eq0+then-is_ready, then-marks-i-eq0+else-is_ready, else-marks-i-eq0}
+use Rattle.foundation.proofs.walk.Goals.{then-not-marks-i+then-is_ready, then-not-marks-i+else-is_ready, else-not-marks-i}
 
 -- the walk from the candidate c on, once the two tests are made
 turn_marks : (t : List ℤ) (now later : List ℕ) (c : ℕ) (G M : Atoms) (x y : Bool) → now ≡ c ∷ later → G (atom_of c) ≡ x → all G (positives t c) ≡ y
@@ -45,11 +45,11 @@ loop-k-preserved c =
     let first : rest b n k ≡ x ∷ rest b n (k + 1) = rest_on b n k c.loop-k-test.true (omega (arith, c.requires.1, c.loop-k.invariant.1)) in
     let fit_on : Fit t (rest b n (k + 1)) = λ y m. c.loop-k.invariant.2 y (subst (λ (l : List ℕ). y ∈ l) (sym first) (Memᴰ.tail m)) in
     let l = rest b n (k + 1) in
-    elim c.if-marks-i-eq0.branch [
-      | then-marks-i-eq0+then-is_ready w ↦
-          let u = marked_no c.loop-k.marks (x % 256) w.if-marks-i-eq0.true in
+    elim c.if-not-marks-i.branch [
+      | then-not-marks-i+then-is_ready w ↦
+          let u = marked_next c.loop-k.marks (x % 256) ∙ w.if-not-marks-i.true in
           let a = sym w.is_ready.ensures ∙ w.if-is_ready.true in
-          let m : marked (set c.loop-k.marks (x % 256) 1) ≡ with_atom (atom_of x) G = marked_with c.loop-k.marks (x % 256) (omega arith) in
+          let m : marked (set c.loop-k.marks (x % 256) true) ≡ with_atom (atom_of x) G = marked_with c.loop-k.marks (x % 256) (omega arith) in
           rw (w.left-is, w.list-is, w.marks-is) (
             omega (arith, c.loop-k.invariant.0),
             c.loop-k.invariant.1,
@@ -57,8 +57,8 @@ loop-k-preserved c =
             ap (walk_marks t l) m ∙ turn_marks t _ l x G _ false true first u a c.loop-k.invariant.3,
             ap (λ (H : Atoms). take c.loop-k.left b ++ walk_left t l H) m ∙ turn_left t _ l x G (take c.loop-k.left b) _ false true first u a c.loop-k.invariant.4,
           )
-      | then-marks-i-eq0+else-is_ready w ↦
-          let u = marked_no c.loop-k.marks (x % 256) w.if-marks-i-eq0.true in
+      | then-not-marks-i+else-is_ready w ↦
+          let u = marked_next c.loop-k.marks (x % 256) ∙ w.if-not-marks-i.true in
           let a = sym w.is_ready.ensures ∙ w.if-is_ready.false in
           let e : rest (set b c.loop-k.left x) n (k + 1) ≡ l = rest_set b n (k + 1) c.loop-k.left x (omega (arith, c.loop-k.invariant.0)) in
           let room : c.loop-k.left < length b = omega (arith, c.loop-k-test.true, c.loop-k.invariant.0, c.loop-k.invariant.1, c.requires.1) in
@@ -70,8 +70,8 @@ loop-k-preserved c =
             ap (λ (l : List ℕ). take (c.loop-k.left + 1) (set b c.loop-k.left x) ++ walk_left t l G) e
                 ∙ grown b c.loop-k.left x (walk_left t l G) _ room (turn_left t _ l x G (take c.loop-k.left b) _ false false first u a c.loop-k.invariant.4),
           )
-      | else-marks-i-eq0 w ↦
-          let u = marked_yes c.loop-k.marks (x % 256) w.if-marks-i-eq0.false in
+      | else-not-marks-i w ↦
+          let u = marked_next c.loop-k.marks (x % 256) ∙ w.if-not-marks-i.false in
           rw (w.left-is, w.list-is, w.marks-is) (
             omega (arith, c.loop-k.invariant.0),
             c.loop-k.invariant.1,
