@@ -22,7 +22,6 @@ use layout::Table;
 use outcome::Ending;
 use results::{Ask, Refusal, Relaxed};
 use solver::plans;
-use table::Fault;
 
 pub mod choosing;
 pub mod kept;
@@ -177,26 +176,23 @@ pub fn relax_with(
     plan: &mut [u8],
     lists: &mut Lists,
     candidates: &mut Candidates,
-) -> Relaxed
+) -> Result<Relaxed, Refusal>
     ensures { Relaxing words.now ask dropped.old dropped.new plan.old plan.new result }
 {
-    let room = plan.len();
-    let judged = judging::judge_in(words, ask.cycles, Buffer::Plan(room), lists);
-    let fault = judged.fault;
-    match fault {
-        Fault::Refused(f) => Relaxed::Refused(f),
-        Fault::Nothing => {
-            let tb = judged.table;
-            if dropped.len() < tb.rules {
-                return Relaxed::Refused(Refusal::ShortList);
-            }
-            give_up(words, tb, ask, dropped, plan, lists, candidates)
-        }
+    let tb = judging::judge_in(words, ask.cycles, Buffer::Plan(plan.len()), lists)?;
+    if dropped.len() < tb.rules {
+        return Err(Refusal::ShortList);
     }
+    Ok(give_up(words, tb, ask, dropped, plan, lists, candidates))
 }
 
 // The same with memory of its own.
-pub fn relax(words: &[i32], ask: Ask, dropped: &mut [u32], plan: &mut [u8]) -> Relaxed
+pub fn relax(
+    words: &[i32],
+    ask: Ask,
+    dropped: &mut [u32],
+    plan: &mut [u8],
+) -> Result<Relaxed, Refusal>
     ensures { Relaxing words.now ask dropped.old dropped.new plan.old plan.new result }
 {
     let mut lists = [0u16; heads::SIZE];

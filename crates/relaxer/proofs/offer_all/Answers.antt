@@ -20,10 +20,12 @@ loop-i-init c =
     let try : Program → Trial = trial a.cycles a.tb.atoms a.limit in
     let P : Program = program_of a.t.now a.tb in
     let q = c.attempt-held.ensures in
-    let z : a.tb.rules - 0 ≡ a.tb.rules = omega arith in
-    (q.2, rw z c.requires.0.rules_lie,
+    let z : a.tb.rules - 0 ≡ a.tb.rules = omega arith in (
+      q.2,
+      rw z c.requires.0.rules_lie,
       ap (λ (m : ℕ). goes_on try P a.tb.atoms c.attempt-held.result 1 (rules_from a.t.now a.tb.first m)) z
-          ∙ begins try P a.tb.atoms c.attempt-held.result (ap row q.0 ∙ c.nothing-none.ensures) (q.1 ∙ ap (λ (k : ℕ → Bool). try (rules_of P k)) c.nothing-none.ensures))
+          ∙ begins try P a.tb.atoms c.attempt-held.result (ap row q.0 ∙ c.nothing-none.ensures) (q.1 ∙ ap (λ (k : ℕ → Bool). try (rules_of P k)) c.nothing-none.ensures),
+    )
 
 pub step-held-requires : goal.step-held-requires
 step-held-requires c =
@@ -50,10 +52,12 @@ loop-i-preserved c =
     let try : Program → Trial = trial a.cycles a.tb.atoms a.limit in
     let on = rules_on t l.at (a.tb.rules - l.i) h in
     let R : rule_at t l.at ∷ rules_from t c.past_rule-at.result (a.tb.rules - (l.i + 1)) ≡ rules_from t l.at (a.tb.rules - l.i) = cc in
-    let rest = rules_from t c.past_rule-at.result (a.tb.rules - (l.i + 1)) in
-    (c.step-held.ensures.1, rw (next, z) lies.1,
+    let rest = rules_from t c.past_rule-at.result (a.tb.rules - (l.i + 1)) in (
+      c.step-held.ensures.1,
+      rw (next, z) lies.1,
       c.step-held.ensures.0 rest ∙ ap (λ (j : ℕ). goes_on try (program_of t a.tb) a.tb.atoms l.held j (rule_at t l.at ∷ rest)) (add-one l.i)
-          ∙ ap (goes_on try (program_of t a.tb) a.tb.atoms l.held (suc l.i)) R ∙ l.invariant.2)
+          ∙ ap (goes_on try (program_of t a.tb) a.tb.atoms l.held (suc l.i)) R ∙ l.invariant.2,
+    )
 
 pub returns : goal.returns
 returns c =
