@@ -38,6 +38,7 @@ pub fn aggregates(stage: Stage) -> usize
 }
 
 // The words that a rule takes for its own aggregate: none, or its literal, four words and two for each element.
+#[tactic(auto, unfolding(crate::specs::Survey::own_words))]
 fn own_words(own: usize, elements: usize) -> usize
     requires { elements ≤ 256 }
     ensures value { result ≡ own_words own elements }
@@ -47,6 +48,7 @@ fn own_words(own: usize, elements: usize) -> usize
 }
 
 // The judgement, by the machine's last state and the marks.
+#[tactic(auto, unfolding(crate::specs::Survey::judged_of))]
 pub fn judged_by(s: State, marks: &[u32; 1280]) -> Result<Judged, Fault>
     ensures { result ≡ judged_of s marks.now }
 {

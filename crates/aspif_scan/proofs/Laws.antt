@@ -3,14 +3,14 @@ use mathlib.Core.Path.{◌≡◌, refl, sym, ap}
 use mathlib.Core.Logic.{⊎_elim}
 use mathlib.Core.Bool.{Bool, true, false, ◌&&◌, not, and-false}
 use mathlib.Core.List.{List, [], ◌∷◌, map}
-use Prim.Native.Nat.{ℕ, zero, suc, ◌+◌, ◌-◌, ◌<◌, ◌≤◌, max, min}
+use Prim.Native.Nat.{ℕ, zero, suc, ◌+◌, ◌-◌, ◌<◌, ◌≤◌, max}
 use native.Mathlib.Nat.{eq-or-lt_of_le}
 use native.Mathlib.Omega.{arith}
 use borrow.Author.Tests.{lt-ltb, le-ltb, ltb-true, ltb-false}
 use lib.Dec.{eqb, leb, ltb}
-use lib.ListN.{length, get_or, set, take, drop}
+use lib.ListN.{length, get_or, take, drop}
 use lib.Seq.{drop-cons}
-use Rattle.std.specs.Prelude.{Option, Some, None}
+use Rattle.std.specs.Prelude.{Option}
 use Rattle.std.specs.List.{list_all}
 use Rattle.std.specs.Cmp.Lexicographic.{pointwise}
 use Rattle.meaning.specs.Foundedness.{same_list}
@@ -19,11 +19,10 @@ use Rattle.text.specs.Scan.{skipped, spanned}
 use Rattle.text.proofs.Runs.{Starts, starts, start_runs, run_first, runs_end, span_end_run}
 use Rattle.aspif.specs.Lines.{is_nil}
 use Rattle.aspif_scan.specs.declared.number.Number.{Number}
-use Rattle.aspif_scan.specs.declared.machine.Stage.{Stage}
 use Rattle.aspif_scan.specs.declared.machine.State.{State}
 use Rattle.aspif_scan.specs.declared.kind.Kind.TheVariants.{Closing, Comment, Other}
-use Rattle.aspif_scan.specs.Machine.{higher_of, outside_of, step_at, step_of, read_by}
-use Rattle.aspif_scan.specs.Marks.{add_of, mark_at, mark_of, marks_by, row_from, light_from}
+use Rattle.aspif_scan.specs.Machine.{higher_of, step_of, read_by}
+use Rattle.aspif_scan.specs.Marks.{mark_of, marks_by, row_from, light_from}
 use Rattle.aspif_scan.specs.Scan.{kind_of, number_of, numbers_in}
 
 pub not_true : (b : Bool) → not b ≡ true → b ≡ false
@@ -34,33 +33,7 @@ pub not_false : (b : Bool) → not b ≡ false → b ≡ true
 not_false true e = refl
 not_false false e = sym e
 
--- ---- a step, and its marks
-
-module _ (s : State) (f : Option Number) where
-  pub step_as : (n : Number) (t : Stage) → f ≡ Some n → s.stage ≡ t → step_at t s n ≡ step_of s f
-  unfolding step_of
-  step_as n t e g = rw e (ap (λ (x : Stage). step_at x s n) (sym g))
-
-  pub step_none : f ≡ None → outside_of s ≡ step_of s f
-  unfolding step_of
-  step_none e = rw e
-
-  pub mark_as : (m : List ℕ) (n : Number) (t : Stage) → f ≡ Some n → s.stage ≡ t → mark_at t s.atom n m ≡ mark_of s f m
-  unfolding mark_of
-  mark_as m n t e g = rw e (ap (λ (x : Stage). mark_at x s.atom n m) (sym g))
-
-  pub mark_none : (m : List ℕ) → f ≡ None → m ≡ mark_of s f m
-  unfolding mark_of
-  mark_none m e = rw e
-
-module _ (m : List ℕ) (slot : Option ℕ) (more : ℕ) where
-  pub add_some : (i : ℕ) → slot ≡ Some i → set m i (min (get_or m i 0 + more) 65536) ≡ add_of m slot more
-  unfolding add_of
-  add_some i e = rw e
-
-  pub add_none : slot ≡ None → m ≡ add_of m slot more
-  unfolding add_of
-  add_none e = rw e
+-- ---- the higher of two atoms
 
 pub higher_max : (top p : ℕ) → p ≤ 256 → max top p ≡ higher_of top p
 unfolding higher_of

@@ -51,6 +51,7 @@ fn plain(n: Number) -> bool
 }
 
 // The higher of two atoms, the second only if it is at most 256.
+#[tactic(auto, using(crate::proofs::Laws::higher_max), unfolding(crate::specs::Machine::higher_of))]
 fn higher(top: u64, p: u64) -> u64
     ensures { result ≡ higher_of top p }
 {
@@ -158,6 +159,7 @@ fn outside(s: State) -> State
 }
 
 // One number more, or a field that is none.
+#[tactic(auto, unfolding(crate::specs::Machine::step_of))]
 pub fn step(s: State, field: Option<Number>) -> State
     ensures { result ≡ step_of s field }
 {

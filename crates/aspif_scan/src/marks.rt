@@ -15,6 +15,7 @@ fn sum(x: u32, more: u64) -> u32
 }
 
 // The index of an atom in a row, where the number is an atom of 1 to 256.
+#[tactic(auto, unfolding(crate::specs::Marks::slot_of))]
 fn slot(row: usize, p: u64) -> Option<usize>
     requires { row < 5 }
     ensures value { result ≡ slot_of row p }
@@ -38,6 +39,7 @@ fn literal_row(minus: bool) -> usize
 }
 
 // Adds to the number of an atom in a row.
+#[tactic(auto, unfolding(crate::specs::Marks::add_of))]
 fn add(marks: &mut [u32; 1280], row: usize, p: u64, more: u64)
     requires { row < 5 }
     ensures { marks.new ≡ add_of marks.old (slot_of row p) more }
@@ -49,6 +51,7 @@ fn add(marks: &mut [u32; 1280], row: usize, p: u64, more: u64)
 }
 
 // What the next field of a statement adds: nothing, where it is no number.
+#[tactic(auto, unfolding(crate::specs::Marks::mark_of))]
 pub fn mark(s: State, field: Option<Number>, marks: &mut [u32; 1280])
     ensures { marks.new ≡ mark_of s field marks.old }
 {

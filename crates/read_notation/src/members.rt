@@ -14,6 +14,7 @@ pub enum Why {
 }
 
 // Whether the atom p may come after `count` atoms of which `last` is the last.
+#[tactic(auto, unfolding(crate::specs::Admitting::admitted))]
 pub fn admits(top: usize, most: usize, count: usize, last: usize, p: usize) -> Result<(), Why>
     ensures { result ≡ admitted top most count last p }
 {

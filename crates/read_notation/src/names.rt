@@ -7,6 +7,7 @@ use aspif_scan::kind::same;
 use meaning::Function;
 
 // The function that a word names, if it names one.
+#[tactic(auto, unfolding(notation::specs::Aggregates::function_of))]
 pub fn function_of(word: &[u8]) -> Option<Function>
     ensures { named_of result ≡ function_of word.now }
 {
