@@ -119,7 +119,7 @@ pub fn propagate(
         × Like (work_of level (cells_at values.new levels.new) result.changed result.conflict) (passes (reduct (map (rule_at t.now) places.now) (true_atoms tb.atoms (valued candidate.now))) 0 (suc tb.atoms) (work_of level (cells_at values.old levels.old) false false)) }
 {
     let mut changed = false;
-    for left in (0..tb.atoms + 1).rev() {
+    for _pass in 0..tb.atoms + 1 {
         let made = rule_steps(t, tb, places, candidate, level, values, levels);
         if made.conflict {
             return made;

@@ -1,5 +1,5 @@
 -- `second_search::rule_steps` meets its contract. The invariant of its loop: what the reduct's rules from the i-th place on make of the arrays at hand is what all of them
--- make of the first ones, up to reasons. The measure is the number of rules to come. Assumes nothing.
+-- make of the first ones, up to reasons. Assumes nothing.
 use native.Mathlib.Omega.{arith}
 use mathlib.Core.Path.{sym, ◌∙◌}
 use lib.ListN.{get_or}
