@@ -62,13 +62,7 @@ pub fn up(t: &Accepted, lists: &Lists, added: bool, done: [u64; 4]) -> [u64; 4]
 }
 
 // A walk over the atoms of a list, from the last to the first: where an atom was found from another one, it comes before it.
-pub fn along(
-    t: &Accepted,
-    lists: &Lists,
-    added: bool,
-    list: &[u8],
-    done: [u64; 4],
-) -> [u64; 4]
+pub fn along(t: &Accepted, lists: &Lists, added: bool, list: &[u8], done: [u64; 4]) -> [u64; 4]
     requires { Listed t.now.words.now t.now.places lists.now × ((i : ℕ) → i < length list.now → get_or list.now i 0 < t.now.places.atoms) × Closed (arcs_of added (program_in t.now)) (row done) }
     ensures { Settling (arcs_of added (program_in t.now)) (row done) (row result) }
 {
