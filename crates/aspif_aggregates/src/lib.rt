@@ -5,7 +5,8 @@
 ghost use Rattle.std.specs.Prelude.{◌≡◌, true, map, ◌++◌, [], ◌∷◌, ◌+◌, ◌≤◌, ◌<◌, ◌*◌, length};
 ghost use Rattle.meaning.specs.Lists.{keep};
 ghost use Rattle.meaning.specs.declared.Comparison.TheVariants.{Greater};
-ghost use Rattle.layout.specs.Layout.{Laid, AggregateLies, aggregate_at, pairs};
+ghost use Rattle.layout.specs.Accepted.{program_in, rule_in, RuleIn};
+ghost use Rattle.layout.specs.Layout.{AggregateLies, aggregate_at, pairs};
 ghost use Rattle.aspif.specs.Writing.{with, barred, stating, bodies_of, defining_all, used};
 ghost use Rattle.bytes_out.specs.Putting.{Put};
 ghost use Rattle.aspif_parts.specs.Held.{held_by};
@@ -14,7 +15,7 @@ ghost use Rattle.aspif_parts.specs.Parts.{line_text, lines_text, head_text, lite
 
 use aspif_parts::{Test, at_least, bad_for_least, bad_for_most, bound, passes, start};
 use bytes_out::{put, put_byte, put_field, put_signed};
-use layout::Table;
+use layout::Accepted;
 use meaning::{Comparison, Function};
 
 // How many elements pass.
@@ -199,18 +200,18 @@ fn put_used(t: &[i32], begin: usize, new: u16, at: usize, out: &mut [u8]) -> usi
 }
 
 // The lines of all new atoms, by aggregate number, j before -j.
-pub fn put_all_used(t: &[i32], tb: Table, news: &[u16; 128], at: usize, out: &mut [u8]) -> usize
-    requires { Laid t.now tb × NewAtoms (held_by t.now tb) news.now }
-    ensures { Put out.old at (lines_text (defining_all (held_by t.now tb) (used (held_by t.now tb)))) result out.new }
+pub fn put_all_used(t: &Accepted, news: &[u16; 128], at: usize, out: &mut [u8]) -> usize
+    requires { NewAtoms (held_by t.now.words.now t.now.places) news.now }
+    ensures { Put out.old at (lines_text (defining_all (held_by t.now.words.now t.now.places) (used (held_by t.now.words.now t.now.places)))) result out.new }
 {
-    let n = tb.aggregates;
+    let n = t.places.aggregates;
     let mut to = at;
     for j in 0..n {
-        let begin = start(tb, j);
+        let begin = start(t, j);
         let plain = 2 * j;
         let negated = plain + 1;
-        let between = put_used(t, begin, news[plain], to, out);
-        to = put_used(t, begin, news[negated], between, out);
+        let between = put_used(t.words, begin, news[plain], to, out);
+        to = put_used(t.words, begin, news[negated], between, out);
     }
     to
 }

@@ -3,12 +3,13 @@
 #![tactic(auto)]
 
 ghost use Rattle.std.specs.Prelude.{◌≡◌, suc, ◌≤◌, ◌<◌, replicate};
-ghost use Rattle.layout.specs.Layout.{Laid, Members};
+ghost use Rattle.layout.specs.Accepted.{program_in, rule_in, RuleIn};
+ghost use Rattle.layout.specs.Layout.{Members};
 ghost use Rattle.aspif_parts.specs.Held.{numbered_from, held_by};
 ghost use Rattle.aspif_parts.specs.Uses.{mark_all, mark_rules, atom_by, next_by, numbered_by, NewAtoms};
 
 use aspif_parts::place;
-use layout::Table;
+use layout::Accepted;
 
 // How many literals there can be: two for each of 64 aggregates.
 pub const MOST: usize = 128;
@@ -26,17 +27,16 @@ fn mark(l: &[i32], mut marks: [u16; 128]) -> [u16; 128]
 }
 
 // Every literal that a rule has is marked.
-fn marked(t: &[i32], tb: Table) -> [u16; 128]
-    requires { Laid t.now tb }
-    ensures { result ≡ mark_rules (replicate 128 0) (numbered_from t.now tb.first tb.rules) }
+fn marked(t: &Accepted) -> [u16; 128]
+    ensures { result ≡ mark_rules (replicate 128 0) (numbered_from t.now.words.now t.now.places.first t.now.places.rules) }
 {
     let mut marks = [0u16; MOST];
-    let mut at = tb.first;
-    for _ in 0..tb.rules {
-        let literals = layout::literals_at(t, at);
-        let next = mark(layout::part(t, literals), marks);
+    let mut at = t.places.first;
+    for _ in 0..t.places.rules {
+        let literals = layout::literals_at(t.words, at);
+        let next = mark(layout::part(t.words, literals), marks);
         marks = next;
-        at = layout::past(t, literals);
+        at = layout::past(t.words, literals);
     }
     marks
 }
@@ -78,11 +78,10 @@ fn numbered(n: usize, mut marks: [u16; 128]) -> [u16; 128]
 }
 
 // The new atoms of an accepted table.
-pub fn new_atoms(t: &[i32], tb: Table) -> [u16; 128]
-    requires { Laid t.now tb }
-    ensures { NewAtoms (held_by t.now tb) result }
+pub fn new_atoms(t: &Accepted) -> [u16; 128]
+    ensures { NewAtoms (held_by t.now.words.now t.now.places) result }
 {
-    let marks = marked(t, tb);
-    let n = tb.atoms;
+    let marks = marked(t);
+    let n = t.places.atoms;
     numbered(n, marks)
 }

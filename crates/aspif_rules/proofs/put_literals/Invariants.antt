@@ -10,4 +10,4 @@ use Rattle.aspif_rules.proofs.put_literals.Given as goal
 
 abbrev pub invariant-loop-i : goal.invariant-loop-i
 invariant-loop-i l =
-    (l.i ≤ length l.l) × Left l.initial.out l.at (literals_text (map (stated_literal (held_by l.t l.tb)) l.l)) l.out l.to (literals_text (map (stated_literal (held_by l.t l.tb)) (drop l.i l.l)))
+    (l.i ≤ length l.l) × Left l.initial.out l.at (literals_text (map (stated_literal (held_by l.t.words.now l.t.places)) l.l)) l.out l.to (literals_text (map (stated_literal (held_by l.t.words.now l.t.places)) (drop l.i l.l)))

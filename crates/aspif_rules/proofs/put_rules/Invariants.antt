@@ -12,6 +12,6 @@ use Rattle.aspif_rules.proofs.put_rules.Given as goal
 
 abbrev pub invariant-loop : goal.invariant-loop
 invariant-loop l =
-    RulesLie l.tb.atoms l.tb.aggregates l.t l.rule (l.tb.rules - l.counter)
-    × ((w : ℤ) → Is (uses (numbered_from l.t l.rule (l.tb.rules - l.counter)) w) → Is (uses (held_by l.t l.tb).rules w))
-    × Left l.initial.out l.at (lines_text (map (stated (held_by l.t l.tb)) (numbered_from l.t l.initial.rule l.tb.rules))) l.out l.to (lines_text (map (stated (held_by l.t l.tb)) (numbered_from l.t l.rule (l.tb.rules - l.counter))))
+    RulesLie l.t.places.atoms l.t.places.aggregates l.t.words.now l.rule (l.t.places.rules - l.counter)
+    × ((w : ℤ) → Is (uses (numbered_from l.t.words.now l.rule (l.t.places.rules - l.counter)) w) → Is (uses (held_by l.t.words.now l.t.places).rules w))
+    × Left l.initial.out l.at (lines_text (map (stated (held_by l.t.words.now l.t.places)) (numbered_from l.t.words.now l.initial.rule l.t.places.rules))) l.out l.to (lines_text (map (stated (held_by l.t.words.now l.t.places)) (numbered_from l.t.words.now l.rule (l.t.places.rules - l.counter))))

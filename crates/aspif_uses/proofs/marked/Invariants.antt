@@ -9,4 +9,4 @@ use Rattle.aspif_uses.proofs.marked.Given as goal
 
 abbrev pub invariant-loop : goal.invariant-loop
 invariant-loop l =
-    (top : ℕ) × (most : ℕ) × (most ≤ 64) × RulesLie top most l.t l.at (l.fn.tb.rules - l.counter) × (mark_rules l.marks (numbered_from l.t l.at (l.fn.tb.rules - l.counter)) ≡ mark_rules (replicate 128 0) (numbered_from l.t l.initial.at l.fn.tb.rules))
+    (top : ℕ) × (most : ℕ) × (most ≤ 64) × RulesLie top most l.t.words.now l.at (l.fn.t.places.rules - l.counter) × (mark_rules l.marks (numbered_from l.t.words.now l.at (l.fn.t.places.rules - l.counter)) ≡ mark_rules (replicate 128 0) (numbered_from l.t.words.now l.initial.at l.fn.t.places.rules))

@@ -8,4 +8,4 @@ use Rattle.show.proofs.put_names.Given as goal
 
 abbrev pub invariant-loop-j : goal.invariant-loop-j
 invariant-loop-j l =
-    (l.j ≤ l.d) × Left l.initial.out l.at (names_text 1 (take l.d (held_by l.t l.tb).aggregates)) l.out l.to (names_text (l.j + 1) (drop l.j (take l.d (held_by l.t l.tb).aggregates)))
+    (l.j ≤ l.d) × Left l.initial.out l.at (names_text 1 (take l.d (held_by l.t.words.now l.t.places).aggregates)) l.out l.to (names_text (l.j + 1) (drop l.j (take l.d (held_by l.t.words.now l.t.places).aggregates)))

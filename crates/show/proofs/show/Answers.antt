@@ -6,14 +6,14 @@ use Rattle.show.proofs.Held.{reading_taken}
 use Rattle.show.proofs.Entry.{shows_refused, shows_laid}
 use Rattle.show.proofs.show.Goals as goal
 
-pub show_laid-requires : goal.show_laid-requires
-show_laid-requires c = (reading_taken c.args.words.now _ (sym c.read.ensures ∙ c.in_ok-tb.was)).laid
+pub invariant_of-t : goal.invariant_of-t
+invariant_of-t c = record { laid = (reading_taken c.args.words.now _ (sym c.read.ensures ∙ c.in_ok-places.was)).laid }
 
-pub returns-in_err-tb : goal.returns-in_err-tb
-returns-in_err-tb c =
-    rw (ends _ _ c.from_residual.ensures.1) (shows_refused c.args.words.now c.args.text.now _ (fault_refused c.args.words.now _ (sym c.read.ensures ∙ c.in_err-tb.was)))
+pub returns-in_err-places : goal.returns-in_err-places
+returns-in_err-places c =
+    rw (ends _ _ c.from_residual.ensures.1) (shows_refused c.args.words.now c.args.text.now _ (fault_refused c.args.words.now _ (sym c.read.ensures ∙ c.in_err-places.was)))
 
 pub returns : goal.returns
 returns c =
-    let x = reading_taken c.args.words.now _ (sym c.read.ensures ∙ c.in_ok-tb.was) in
+    let x = reading_taken c.args.words.now _ (sym c.read.ensures ∙ c.in_ok-places.was) in
     shows_laid c.args.words.now c.args.text.now _ c.show_laid.result x.contents x.accepted (rw x.held at c.show_laid.ensures)

@@ -11,17 +11,17 @@ use Rattle.show.proofs.show_laid.Goals as goal
 
 pub put_text-length-requires : goal.put_text-length-requires
 put_text-length-requires c =
-    let pre = c.requires in
+    let pre = c.args.t.now.laid in
     let args = c.args in
     let at_named = c.named-d in
-    rw at_named.ensures (pre, named_most args.t.now args.tb)
+    rw at_named.ensures (named_most args.t.now.words.now args.t.now.places)
 
 pub returns-then-text-length : goal.returns-then-text-length
 returns-then-text-length c =
-    let same : text_by c.named-d.result (held_by c.args.t.now c.args.tb) ≡ text_of (held_by c.args.t.now c.args.tb) =
+    let same : text_by c.named-d.result (held_by c.args.t.now.words.now c.args.t.now.places) ≡ text_of (held_by c.args.t.now.words.now c.args.t.now.places) =
     let args = c.args in
     let at_named = c.named-d in
-    ap (λ (d : ℕ). text_by d (held_by args.t.now args.tb)) at_named.ensures ∙ text_is args.t.now args.tb in
+    ap (λ (d : ℕ). text_by d (held_by args.t.now.words.now args.t.now.places)) at_named.ensures ∙ text_is args.t.now.words.now args.t.now.places in
     let at-put-text = c.put_text-length in
     let at-if1 = c.if-text-length in
     let q = rw (same) at at-put-text.ensures in
@@ -29,17 +29,17 @@ returns-then-text-length c =
 
 pub put_text-requires : goal.put_text-requires
 put_text-requires c =
-    let pre = c.requires in
+    let pre = c.args.t.now.laid in
     let args = c.args in
     let at_named = c.named-d in
-    rw at_named.ensures (pre, named_most args.t.now args.tb)
+    rw at_named.ensures (named_most args.t.now.words.now args.t.now.places)
 
 pub returns : goal.returns
 returns c =
-    let same : text_by c.named-d.result (held_by c.args.t.now c.args.tb) ≡ text_of (held_by c.args.t.now c.args.tb) =
+    let same : text_by c.named-d.result (held_by c.args.t.now.words.now c.args.t.now.places) ≡ text_of (held_by c.args.t.now.words.now c.args.t.now.places) =
     let args = c.args in
     let at_named = c.named-d in
-    ap (λ (d : ℕ). text_by d (held_by args.t.now args.tb)) at_named.ensures ∙ text_is args.t.now args.tb in
+    ap (λ (d : ℕ). text_by d (held_by args.t.now.words.now args.t.now.places)) at_named.ensures ∙ text_is args.t.now.words.now args.t.now.places in
     let at-put-text = c.put_text-length in
     let at-if1 = c.if-text-length in
     let at-put-text2 = c.put_text in

@@ -8,4 +8,4 @@ use Rattle.show.proofs.naming.in_turn.Given as goal
 
 abbrev pub invariant-loop : goal.invariant-loop
 invariant-loop l =
-    RulesLie l.tb.atoms l.tb.aggregates l.t l.rule (l.fn.tb.rules - l.counter) × (turns_all l.d l.next (numbered_from l.t l.rule (l.fn.tb.rules - l.counter)) ≡ turns_all l.d l.initial.next (numbered_from l.t l.initial.rule l.fn.tb.rules))
+    RulesLie l.t.places.atoms l.t.places.aggregates l.t.words.now l.rule (l.fn.t.places.rules - l.counter) × (turns_all l.d l.next (numbered_from l.t.words.now l.rule (l.fn.t.places.rules - l.counter)) ≡ turns_all l.d l.initial.next (numbered_from l.t.words.now l.initial.rule l.fn.t.places.rules))

@@ -9,4 +9,4 @@ use Rattle.show.proofs.rules.put_literals.Given as goal
 
 abbrev pub invariant-loop-i : goal.invariant-loop-i
 invariant-loop-i l =
-    (l.i ≤ length l.l) × Left l.initial.out l.at (joined_from comma l.behind (map (literal_text l.d (held_by l.t l.tb).aggregates) l.l)) l.out l.to (joined_from comma l.follows (map (literal_text l.d (held_by l.t l.tb).aggregates) (drop l.i l.l)))
+    (l.i ≤ length l.l) × Left l.initial.out l.at (joined_from comma l.behind (map (literal_text l.d (held_by l.t.words.now l.t.places).aggregates) l.l)) l.out l.to (joined_from comma l.follows (map (literal_text l.d (held_by l.t.words.now l.t.places).aggregates) (drop l.i l.l)))

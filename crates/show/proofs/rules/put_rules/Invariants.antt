@@ -8,4 +8,4 @@ use Rattle.show.proofs.rules.put_rules.Given as goal
 
 abbrev pub invariant-loop-i : goal.invariant-loop-i
 invariant-loop-i l =
-    RulesLie l.tb.atoms l.tb.aggregates l.t l.rule (l.fn.tb.rules - l.i) × Left l.initial.out l.at (rules_text l.d (held_by l.t l.tb).aggregates 1 (held_by l.t l.tb).rules) l.out l.to (rules_text l.d (held_by l.t l.tb).aggregates (l.i + 1) (numbered_from l.t l.rule (l.fn.tb.rules - l.i)))
+    RulesLie l.t.places.atoms l.t.places.aggregates l.t.words.now l.rule (l.fn.t.places.rules - l.i) × Left l.initial.out l.at (rules_text l.d (held_by l.t.words.now l.t.places).aggregates 1 (held_by l.t.words.now l.t.places).rules) l.out l.to (rules_text l.d (held_by l.t.words.now l.t.places).aggregates (l.i + 1) (numbered_from l.t.words.now l.rule (l.fn.t.places.rules - l.i)))
