@@ -27,6 +27,7 @@ pub enum Stage {
 
 // How far a statement has been read: what is expected, how many members of the list at hand are left, the last atom, the bound, the highest atom
 // of at most 256, and whether all numbers are in 01's ranges.
+// Stays: the flag goes on with the values: a statement beyond 01's ranges is read to its end, since text outside the subset comes before it.
 #[derive(Clone, Copy)]
 pub struct State {
     pub stage: Stage,

@@ -47,6 +47,7 @@ pub fn makes_arcs(t: &[i32], at: usize) -> bool
 }
 
 // Whether it has a head and aggregate literals.
+// Stays: it differs from `makes_arcs` in the list that it asks; the test of two lists is `linked` already.
 pub fn adds_arcs(t: &[i32], at: usize) -> bool
     requires { (past_at t.now at ≤ length t.now) × (aggs_at t.now at ≤ length t.now) × (past_at t.now (aggs_at t.now at) ≤ length t.now) }
     ensures { result ≡ adds_arcs (rule_at t.now at) }

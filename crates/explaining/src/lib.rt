@@ -13,7 +13,8 @@ ghost use Rattle.std.specs.Prelude.{◌≡◌, false, ◌≤◌, length, take};
 ghost use Rattle.meaning.specs.Lists.{all};
 ghost use Rattle.interpretation.specs.State.{true_atoms, AllDefined};
 ghost use Rattle.interpretation.specs.View.{valued};
-ghost use Rattle.layout.specs.Layout.{Laid, Members, RuleLies, atoms, pos_at, rule_at, program_of};
+ghost use Rattle.layout.specs.Accepted.{program_in, rule_in, RuleIn};
+ghost use Rattle.layout.specs.Layout.{Members, atoms, pos_at, rule_at};
 ghost use Rattle.foundation.specs.Walk.{could_of, Stands};
 ghost use Rattle.rounds.specs.Rounds.{no_whys, why_of, whys_in, Recorded};
 ghost use Rattle.rounds.specs.Marks.{earlier, marks_after};
@@ -22,7 +23,7 @@ ghost use Rattle.explaining.specs.Kept.{kept_in, Kept};
 
 use foundation::Candidates;
 use interpretation::{Interpretation, Record};
-use layout::Table;
+use layout::Accepted;
 use rounds::Why;
 
 // The marks: the rounds and the rules so far, atom p's at index p - 1; 0 where it has none yet.
@@ -46,26 +47,26 @@ pub fn all_earlier(l: &[i32], marks: &[Why; 256], round: u16) -> bool
 
 // The word of the rule at `at`: the candidate that it is, or 0 where it adds nothing.
 // Stays: the words stand in the array of candidates that the C interface lends, and a rule that adds nothing has its place there too.
-pub fn code(t: &[i32], tb: Table, at: usize, values: &[u8; 256]) -> u32
-    requires { Laid t.now tb × RuleLies tb.atoms tb.aggregates t.now at }
-    ensures { result ≡ code_by (could_of (valued values.now) (rule_at t.now at)) (pos_at t.now at) }
+pub fn code(t: &Accepted, at: usize, values: &[u8; 256]) -> u32
+    requires { RuleIn t.now at }
+    ensures { result ≡ code_by (could_of (valued values.now) (rule_in t.now at)) (pos_at t.now.words.now at) }
 {
-    let Some(p) = foundation::could_add(t, tb, at, values) else {
+    let Some(p) = foundation::could_add(t, at, values) else {
         return 0;
     };
-    let place = layout::past(t, at) * 256;
+    let place = layout::past(t.words, at) * 256;
     (place + (p - 1)) as u32
 }
 
 // The words of all rules, rule i's at index i - 1.
-pub fn collect(t: &[i32], tb: Table, values: &[u8; 256], list: &mut [u32])
-    requires { Laid t.now tb × (length list.old ≡ 1024) }
-    ensures { Stands (codes_from (valued values.now) t.now tb.first tb.rules) list.new tb.rules }
+pub fn collect(t: &Accepted, values: &[u8; 256], list: &mut [u32])
+    requires { (length list.old ≡ 1024) }
+    ensures { Stands (codes_from (valued values.now) t.now.words.now t.now.places.first t.now.places.rules) list.new t.now.places.rules }
 {
-    let mut at = tb.first;
-    for k in 0..tb.rules {
-        list[k] = code(t, tb, at, values);
-        at = layout::past_rule(t, at);
+    let mut at = t.places.first;
+    for k in 0..t.places.rules {
+        list[k] = code(t, at, values);
+        at = layout::past_rule(t.words, at);
     }
 }
 
@@ -106,15 +107,15 @@ pub fn walk(t: &[i32], list: &[u32], number: usize, round: u16, marks: &mut [Why
 }
 
 // The rounds 1 to N, up to the first that adds nothing. What the list held before does not matter.
-pub fn mark(t: &[i32], tb: Table, values: &[u8; 256], list: &mut Candidates) -> [Why; 256]
-    requires { Laid t.now tb × AllDefined tb.atoms (valued values.now) }
-    ensures { whys_in result ≡ marks_after (program_of t.now tb) (true_atoms tb.atoms (valued values.now)) tb.atoms }
+pub fn mark(t: &Accepted, values: &[u8; 256], list: &mut Candidates) -> [Why; 256]
+    requires { AllDefined t.now.places.atoms (valued values.now) }
+    ensures { whys_in result ≡ marks_after (program_in t.now) (true_atoms t.now.places.atoms (valued values.now)) t.now.places.atoms }
 {
-    collect(t, tb, values, list);
+    collect(t, values, list);
     let mut marks = nothing();
-    for k in 0..tb.atoms {
+    for k in 0..t.places.atoms {
         let round = k as u16 + 1;
-        if !walk(t, list, tb.rules, round, &mut marks) {
+        if !walk(t.words, list, t.places.rules, round, &mut marks) {
             return marks;
         }
     }
@@ -144,16 +145,11 @@ pub fn whys_of(it: Interpretation) -> [Why; 256]
 
 // An answer with the round and the rule of each atom in its record: those of the definition for the true atoms, and 0 and 0 for all others. Nothing else of the
 // interpretation changes. What the list held before does not matter.
-pub fn explain(
-    t: &[i32],
-    tb: Table,
-    mut it: Interpretation,
-    list: &mut Candidates,
-) -> Interpretation
-    requires { Laid t.now tb × AllDefined tb.atoms (valued it.values) }
-    ensures { Kept it result (why_of (program_of t.now tb) tb.atoms (true_atoms tb.atoms (valued it.values))) }
+pub fn explain(t: &Accepted, mut it: Interpretation, list: &mut Candidates) -> Interpretation
+    requires { AllDefined t.now.places.atoms (valued it.values) }
+    ensures { Kept it result (why_of (program_in t.now) t.now.places.atoms (true_atoms t.now.places.atoms (valued it.values))) }
 {
-    let marks = mark(t, tb, &it.values, list);
+    let marks = mark(t, &it.values, list);
     for i in 0..256 {
         let level = it.records[i].level;
         let Why { round, rule } = marks[i];

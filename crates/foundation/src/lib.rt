@@ -12,11 +12,12 @@ ghost use Rattle.meaning.specs.Answers.{model};
 ghost use Rattle.meaning.specs.Foundedness.{atoms_to, founded};
 ghost use Rattle.interpretation.specs.State.{truth_of, true_atoms, AllDefined};
 ghost use Rattle.interpretation.specs.View.{valued};
-ghost use Rattle.layout.specs.Layout.{Laid, Members, Listed, RuleLies, atoms, rule_at, program_of};
+ghost use Rattle.layout.specs.Accepted.{program_in, rule_in, RuleIn};
+ghost use Rattle.layout.specs.Layout.{Members, Listed, atoms, rule_at};
 ghost use Rattle.foundation.specs.Walk.{marked, fits, sole_of, rest_true, could_of, place_of, positives, candidates_from, Stands, Fit, walk_marks, walk_left, covers, MarksAdded};
 
 use interpretation::Value;
-use layout::Table;
+use layout::{Accepted, Table};
 use rules::Step;
 
 // Where the candidates stand: a word for each rule. A caller lends it to the test, which writes before it reads.
@@ -72,40 +73,40 @@ pub fn sole(l: &[i32], values: &[u8; 256]) -> Option<usize>
 }
 
 // The negated atoms and the aggregate literals of the rule at `at` are true.
-pub fn rest_true(t: &[i32], tb: Table, at: usize, values: &[u8; 256]) -> bool
-    requires { Laid t.now tb × RuleLies tb.atoms tb.aggregates t.now at }
-    ensures { result ≡ rest_true (valued values.now) (rule_at t.now at) }
+pub fn rest_true(t: &Accepted, at: usize, values: &[u8; 256]) -> bool
+    requires { RuleIn t.now at }
+    ensures { result ≡ rest_true (valued values.now) (rule_in t.now at) }
 {
-    let i = layout::past(t, at);
-    let j = layout::past(t, i);
-    rules::with_rest(Step::Conflict, t, tb, j, values) == Step::Conflict
+    let i = layout::past(t.words, at);
+    let j = layout::past(t.words, i);
+    rules::with_rest(Step::Conflict, t, j, values) == Step::Conflict
 }
 
 // The atom that the rule at `at` adds once its positive atoms are marked, if it adds one.
-pub fn could_add(t: &[i32], tb: Table, at: usize, values: &[u8; 256]) -> Option<usize>
-    requires { Laid t.now tb × RuleLies tb.atoms tb.aggregates t.now at }
-    ensures { result ≡ could_of (valued values.now) (rule_at t.now at) }
+pub fn could_add(t: &Accepted, at: usize, values: &[u8; 256]) -> Option<usize>
+    requires { RuleIn t.now at }
+    ensures { result ≡ could_of (valued values.now) (rule_in t.now at) }
 {
-    let head = layout::part(t, at);
+    let head = layout::part(t.words, at);
     let p = sole(head, values)?;
-    rest_true(t, tb, at, values).then_some(p)
+    rest_true(t, at, values).then_some(p)
 }
 
 // The candidates of a table, in rule order, written from index 0 on. The result is their number.
-pub fn collect(t: &[i32], tb: Table, values: &[u8; 256], list: &mut [u32]) -> usize
-    requires { Laid t.now tb × (length list.old ≡ 1024) }
-    ensures { Stands (candidates_from (valued values.now) t.now tb.first tb.rules) list.new result }
+pub fn collect(t: &Accepted, values: &[u8; 256], list: &mut [u32]) -> usize
+    requires { (length list.old ≡ 1024) }
+    ensures { Stands (candidates_from (valued values.now) t.now.words.now t.now.places.first t.now.places.rules) list.new result }
 {
     let mut number: usize = 0;
-    let mut at = tb.first;
-    for _ in 0..tb.rules {
-        if let Some(p) = could_add(t, tb, at, values) {
-            let place = layout::past(t, at) * 256;
+    let mut at = t.places.first;
+    for _ in 0..t.places.rules {
+        if let Some(p) = could_add(t, at, values) {
+            let place = layout::past(t.words, at) * 256;
             let word = place + (p - 1);
             list[number] = word as u32;
             number += 1;
         }
-        at = layout::past_rule(t, at);
+        at = layout::past_rule(t.words, at);
     }
     number
 }
@@ -144,14 +145,14 @@ pub fn walk(t: &[i32], number: usize, list: &mut [u32], marks: &mut [bool; 256])
 }
 
 // The atoms that get added: walks repeat until one leaves all candidates.
-pub fn added(t: &[i32], tb: Table, values: &[u8; 256], list: &mut Candidates) -> [bool; 256]
-    requires { Laid t.now tb × AllDefined tb.atoms (valued values.now) }
-    ensures { MarksAdded result (program_of t.now tb) (true_atoms tb.atoms (valued values.now)) }
+pub fn added(t: &Accepted, values: &[u8; 256], list: &mut Candidates) -> [bool; 256]
+    requires { AllDefined t.now.places.atoms (valued values.now) }
+    ensures { MarksAdded result (program_in t.now) (true_atoms t.now.places.atoms (valued values.now)) }
 {
-    let mut number = collect(t, tb, values, list);
+    let mut number = collect(t, values, list);
     let mut marks = [false; 256];
     loop {
-        let left = walk(t, number, list, &mut marks);
+        let left = walk(t.words, number, list, &mut marks);
         if left == number {
             return marks;
         }
@@ -176,35 +177,35 @@ pub fn all_covered(n: usize, values: &[u8; 256], marks: &[bool; 256]) -> bool
 }
 
 // The foundedness test. What the list held before does not matter.
-pub fn founded_by(t: &[i32], tb: Table, values: &[u8; 256], list: &mut Candidates) -> bool
-    requires { Laid t.now tb × AllDefined tb.atoms (valued values.now) }
-    ensures { result ≡ founded (program_of t.now tb) tb.atoms (true_atoms tb.atoms (valued values.now)) }
+pub fn founded_by(t: &Accepted, values: &[u8; 256], list: &mut Candidates) -> bool
+    requires { AllDefined t.now.places.atoms (valued values.now) }
+    ensures { result ≡ founded (program_in t.now) t.now.places.atoms (true_atoms t.now.places.atoms (valued values.now)) }
 {
-    let marks = added(t, tb, values, list);
-    let n = tb.atoms;
+    let marks = added(t, values, list);
+    let n = t.places.atoms;
     all_covered(n, values, &marks)
 }
 
 // The foundedness test with a list of its own.
-pub fn founded(t: &[i32], tb: Table, values: &[u8; 256]) -> bool
-    requires { Laid t.now tb × AllDefined tb.atoms (valued values.now) }
-    ensures { result ≡ founded (program_of t.now tb) tb.atoms (true_atoms tb.atoms (valued values.now)) }
+pub fn founded(t: &Accepted, values: &[u8; 256]) -> bool
+    requires { AllDefined t.now.places.atoms (valued values.now) }
+    ensures { result ≡ founded (program_in t.now) t.now.places.atoms (true_atoms t.now.places.atoms (valued values.now)) }
 {
     let mut list = [0u32; Table::RULES];
-    founded_by(t, tb, values, &mut list)
+    founded_by(t, values, &mut list)
 }
 
 // Whether each rule holds: with all atoms defined, one that does not hold is in conflict.
-pub fn is_model(t: &[i32], tb: Table, values: &[u8; 256]) -> bool
-    requires { Laid t.now tb × AllDefined tb.atoms (valued values.now) }
-    ensures { result ≡ model (program_of t.now tb) (true_atoms tb.atoms (valued values.now)) }
+pub fn is_model(t: &Accepted, values: &[u8; 256]) -> bool
+    requires { AllDefined t.now.places.atoms (valued values.now) }
+    ensures { result ≡ model (program_in t.now) (true_atoms t.now.places.atoms (valued values.now)) }
 {
-    let mut at = tb.first;
-    for _ in 0..tb.rules {
-        if rules::demand(t, tb, at, values) == Step::Conflict {
+    let mut at = t.places.first;
+    for _ in 0..t.places.rules {
+        if rules::demand(t, at, values) == Step::Conflict {
             return false;
         }
-        at = layout::past_rule(t, at);
+        at = layout::past_rule(t.words, at);
     }
     true
 }

@@ -11,6 +11,7 @@ use layout::{Accepted, Table};
 use results::Refusal;
 
 // The buffer that an entry is lent for what it writes or reads, as far as it is judged with the table.
+// Stays: three answers to one question, each named at its entry; an Option around two of them would name none of the first.
 #[derive(Clone, Copy)]
 pub enum Buffer {
     // None is judged here.

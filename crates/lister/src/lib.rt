@@ -10,7 +10,7 @@ ghost use Rattle.lister.specs.Telling.{result_of};
 use foundation::Candidates;
 use heads::Lists;
 use judging::Buffer;
-use layout::Table;
+use layout::{Accepted, Table};
 use listing::{Kind, Told};
 use results::{Ask, Counts, Listed, Refusal};
 
@@ -25,8 +25,9 @@ pub fn list_with(
 ) -> Result<Listed, Refusal>
     ensures { Listing words.now ask rows.old rows.new result }
 {
-    let tb = judging::judge_in(words, ask.cycles, Buffer::Rows(rows.len()), lists)?;
-    let told = listing::list_by(words, tb, ask.cycles, lists, ask.limit, rows, candidates);
+    let places = judging::judge_in(words, ask.cycles, Buffer::Rows(rows.len()), lists)?;
+    let t = Accepted { words, places };
+    let told = listing::list_by(&t, ask.cycles, lists, ask.limit, rows, candidates);
     Ok(result(told))
 }
 

@@ -7,13 +7,14 @@ ghost use Rattle.std.specs.Int.Signed.{non_neg};
 ghost use Rattle.levels.specs.Levels.{union};
 ghost use Rattle.levels.specs.View.{row, rows};
 ghost use Rattle.interpretation.specs.View.{valued, cell_by, cell_value};
-ghost use Rattle.layout.specs.Layout.{Laid, Members, atoms, literal_of};
+ghost use Rattle.layout.specs.Accepted.{program_in, rule_in, RuleIn};
+ghost use Rattle.layout.specs.Layout.{Members, atoms, literal_of};
 ghost use Rattle.valuing.specs.Values.{says_true, signed, agg_lit, literal_value};
 ghost use Rattle.valuing.specs.Reasons.{reason_at, reason_of, reasons_of};
 ghost use Rattle.literals.specs.Scan.{atom_lits, literal_lits, first_false, atoms_reason};
 
 use interpretation::Value;
-use layout::Table;
+use layout::Accepted;
 
 mod aggregates;
 mod settling;
@@ -111,31 +112,31 @@ pub fn atoms_reason(
 // ---- lists of aggregate literals
 
 // Where the aggregate of the literal at index k of a list begins.
-pub fn start(tb: Table, l: &[i32], k: usize) -> usize
+pub fn start(t: &Accepted, l: &[i32], k: usize) -> usize
     requires { (k < length l.now) × (1 ≤ nat_abs (get_or l.now k (pos 0))) × (nat_abs (get_or l.now k (pos 0)) ≤ 64) }
-    ensures { result ≡ get_or tb.starts (nat_abs (get_or l.now k (pos 0)) - 1) 0 }
+    ensures { result ≡ get_or t.now.places.starts (nat_abs (get_or l.now k (pos 0)) - 1) 0 }
 {
     let place = words::atom(l, k) - 1;
-    tb.starts[place] as usize
+    t.places.starts[place] as usize
 }
 
 // The value of the aggregate literal at index k of a list of them.
-pub fn literal_value(t: &[i32], tb: Table, l: &[i32], k: usize, values: &[u8; 256]) -> Value
-    requires { Laid t.now tb × Members tb.aggregates l.now × (k < length l.now) }
-    ensures { result ≡ literal_value (valued values.now) (literal_of t.now (get_or l.now k (pos 0))) }
+pub fn literal_value(t: &Accepted, l: &[i32], k: usize, values: &[u8; 256]) -> Value
+    requires { Members t.now.places.aggregates l.now × (k < length l.now) }
+    ensures { result ≡ literal_value (valued values.now) (literal_of t.now.words.now (get_or l.now k (pos 0))) }
 {
-    let at = start(tb, l, k);
-    let v = aggregates::aggregate_value(t, at, values);
+    let at = start(t, l, k);
+    let v = aggregates::aggregate_value(t.words, at, values);
     signed(0 <= l[k], v)
 }
 
 // The first false one of a list of aggregate literals: its index from 0.
-pub fn false_literal(t: &[i32], tb: Table, l: &[i32], values: &[u8; 256]) -> Option<usize>
-    requires { Laid t.now tb × Members tb.aggregates l.now }
-    ensures { result ≡ first_false (valued values.now) (literal_lits t.now l.now) }
+pub fn false_literal(t: &Accepted, l: &[i32], values: &[u8; 256]) -> Option<usize>
+    requires { Members t.now.places.aggregates l.now }
+    ensures { result ≡ first_false (valued values.now) (literal_lits t.now.words.now l.now) }
 {
     for k in 0..l.len() {
-        if literal_value(t, tb, l, k, values) == Value::False {
+        if literal_value(t, l, k, values) == Value::False {
             return Some(k);
         }
     }
@@ -144,36 +145,34 @@ pub fn false_literal(t: &[i32], tb: Table, l: &[i32], values: &[u8; 256]) -> Opt
 
 // The reason of the aggregate literal at index k of a list, joined to a set: the union over elements that settle it.
 pub fn literal_reason(
-    t: &[i32],
-    tb: Table,
+    t: &Accepted,
     l: &[i32],
     k: usize,
     values: &[u8; 256],
     reasons: &[[u64; 4]; 256],
     more: [u64; 4],
 ) -> [u64; 4]
-    requires { Laid t.now tb × Members tb.aggregates l.now × (k < length l.now) }
-    ensures { row result ≡ union (reason_of (valued values.now) (rows reasons.now) (agg_lit (literal_of t.now (get_or l.now k (pos 0))))) (row more) }
+    requires { Members t.now.places.aggregates l.now × (k < length l.now) }
+    ensures { row result ≡ union (reason_of (valued values.now) (rows reasons.now) (agg_lit (literal_of t.now.words.now (get_or l.now k (pos 0))))) (row more) }
 {
-    let at = start(tb, l, k);
-    settling::aggregate_reason(t, at, values, reasons, more)
+    let at = start(t, l, k);
+    settling::aggregate_reason(t.words, at, values, reasons, more)
 }
 
 // The reasons of all aggregate literals of a list joined to a set.
 pub fn literals_reason(
-    t: &[i32],
-    tb: Table,
+    t: &Accepted,
     l: &[i32],
     values: &[u8; 256],
     reasons: &[[u64; 4]; 256],
     more: [u64; 4],
 ) -> [u64; 4]
-    requires { Laid t.now tb × Members tb.aggregates l.now }
-    ensures { row result ≡ union (reasons_of (valued values.now) (rows reasons.now) (literal_lits t.now l.now)) (row more) }
+    requires { Members t.now.places.aggregates l.now }
+    ensures { row result ≡ union (reasons_of (valued values.now) (rows reasons.now) (literal_lits t.now.words.now l.now)) (row more) }
 {
     let mut acc = more;
     for k in 0..l.len() {
-        let next = literal_reason(t, tb, l, k, values, reasons, acc);
+        let next = literal_reason(t, l, k, values, reasons, acc);
         acc = next;
     }
     acc

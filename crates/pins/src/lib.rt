@@ -12,7 +12,7 @@ ghost use Rattle.pins.specs.Session.{Opening, Changing, Plans};
 use foundation::Candidates;
 use heads::Lists;
 use judging::Buffer;
-use layout::Table;
+use layout::{Accepted, Table};
 use results::Refusal;
 use solver::Solution;
 
@@ -147,10 +147,11 @@ fn plan_in(
                 whys,
             }
         }
-        Ok(tb) => {
-            let found = setting::search(words, tb, cycles, lists, s, limit, candidates);
-            let solved = solver::plans::report(found, tb.atoms, plan);
-            let whys = solver::whys_by(words, tb, cycles, solved, found.it, candidates);
+        Ok(places) => {
+            let t = Accepted { words, places };
+            let found = setting::search(&t, cycles, lists, s, limit, candidates);
+            let solved = solver::plans::report(found, places.atoms, plan);
+            let whys = solver::whys_by(&t, cycles, solved, found.it, candidates);
             Solution {
                 solved: Ok(solved),
                 whys,

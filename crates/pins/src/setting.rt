@@ -1,6 +1,7 @@
 // The search of a session: 01's, from the start that the pins make. "Pins are set before the first pass, in order, with empty reasons." A pin that `pin` would refuse
 // in a new session given the pins in this order is passed over; a session that `open` made holds none.
 ghost use Rattle.std.specs.Prelude.{◌≡◌, Bool, ◌≤◌, ◌<◌, length};
+ghost use Rattle.layout.specs.Accepted.{program_in, rule_in, RuleIn};
 ghost use Rattle.layout.specs.Layout.{Laid};
 ghost use Rattle.heads.specs.Heads.{Listed, taking};
 ghost use Rattle.interpretation.specs.State.{set_at};
@@ -15,7 +16,7 @@ use crate::memory;
 use foundation::Candidates;
 use heads::Lists;
 use interpretation::{Interpretation, Value};
-use layout::Table;
+use layout::Accepted;
 use outcome::{Found, Start};
 
 // Whether an atom of 1 to n has no value yet.
@@ -65,18 +66,17 @@ fn start(s: &[i32], n: usize) -> Interpretation
 
 // The search over an accepted table with the pins of a session.
 pub fn search(
-    t: &[i32],
-    tb: Table,
+    t: &Accepted,
     cycles: bool,
     lists: &Lists,
     s: &[i32],
     limit: u32,
     candidates: &mut Candidates,
 ) -> Found
-    requires { Laid t.now tb × Listed t.now tb lists.now × (length s.now ≡ 16451) }
-    ensures { Solves (problem_by cycles (taking t.now lists.now) tb.atoms (pins_of (taken_of tb.atoms (pins_in s.now)))) limit result }
+    requires { Listed t.now.words.now t.now.places lists.now × (length s.now ≡ 16451) }
+    ensures { Solves (problem_by cycles (taking t.now.words.now lists.now) t.now.places.atoms (pins_of (taken_of t.now.places.atoms (pins_in s.now)))) limit result }
 {
-    let n = tb.atoms;
+    let n = t.places.atoms;
     let it = start(s, n);
     let from = Start {
         it,
@@ -85,6 +85,6 @@ pub fn search(
         passes: 0,
     };
     let reasons = levels::no_rows();
-    let halt = jumping::search_by(t, tb, cycles, lists, limit, from, reasons, candidates);
+    let halt = jumping::search_by(t, cycles, lists, limit, from, reasons, candidates);
     halt.found
 }

@@ -2,6 +2,7 @@
 // again with them, in table order; the table is not copied. Meaning: `specs/Offering.antt`.
 ghost use Rattle.std.specs.Prelude.{◌≡◌, cond, ◌||◌, ◌+◌, ◌≤◌, ◌<◌, length, set};
 ghost use Rattle.levels.specs.View.{row};
+ghost use Rattle.layout.specs.Accepted.{program_in, rule_in, RuleIn};
 ghost use Rattle.layout.specs.Layout.{past_at, rule_at, Laid};
 ghost use Rattle.heads.specs.Heads.{list_at, Listed};
 ghost use Rattle.promises.specs.Plans.{bit_of};
@@ -10,7 +11,7 @@ ghost use Rattle.relaxer.specs.Offering.{kept_places};
 
 use crate::kept;
 use crate::kept::Kept;
-use layout::Table;
+use layout::Accepted;
 
 // Whether the rule at `at` has a head.
 pub fn has_head(t: &[i32], at: usize) -> bool
@@ -42,16 +43,16 @@ pub fn put<T: Copy>(list: &mut [T], n: usize, item: T, takes: bool) -> usize
 }
 
 // List 0 made again.
-pub fn choose(t: &[i32], tb: Table, kept: Kept, lists: &mut [u16])
-    requires { Laid t.now tb × Listed t.now tb lists.old }
-    ensures { Listed t.now tb lists.new × (list_at lists.new 0 ≡ kept_places (row kept) t.now tb) }
+pub fn choose(t: &Accepted, kept: Kept, lists: &mut [u16])
+    requires { Listed t.now.words.now t.now.places lists.old }
+    ensures { Listed t.now.words.now t.now.places lists.new × (list_at lists.new 0 ≡ kept_places (row kept) t.now.words.now t.now.places) }
 {
-    let mut at = tb.first;
+    let mut at = t.places.first;
     let mut end = heads::BOUNDS;
-    for i in 0..tb.rules {
-        let takes = takes_part(t, at, kept, i + 1);
+    for i in 0..t.places.rules {
+        let takes = takes_part(t.words, at, kept, i + 1);
         end = put(lists, end, at as u16, takes);
-        at = layout::past_rule(t, at);
+        at = layout::past_rule(t.words, at);
     }
     lists[1] = end as u16;
 }

@@ -6,6 +6,7 @@ ghost use Rattle.text.specs.Putting.{Put};
 use results::{Refusal, Solved};
 
 // One byte at index `at`; the index after it.
+// Stays: `bytes_out` has the same writers, whose index goes on past the end to find a text's length; here it stops, as `Put` of `specs/Putting.antt` has it.
 fn put_byte(b: u8, at: usize, out: &mut [u8]) -> usize
     requires { at ≤ length out.old }
     ensures { Put out.old at (b ∷ []) result out.new }

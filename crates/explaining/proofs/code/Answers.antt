@@ -14,32 +14,32 @@ use Rattle.explaining.proofs.code.Goals as goal
 
 pub overflow_sub-result : goal.overflow_sub-result
 overflow_sub-result c =
-    let could : could_of (valued c.args.values.now) (rule_at c.args.t.now c.args.at) ≡ Some c.in-Some.p = sym c.could_add.ensures ∙ c.in-Some.is in
+    let could : could_of (valued c.args.values.now) (rule_at c.args.t.now.words.now c.args.at) ≡ Some c.in-Some.p = sym c.could_add.ensures ∙ c.in-Some.is in
     let range : In 256 c.in-Some.p =
-    could_range c.args.t.now c.args.tb c.requires.0 c.args.at c.requires.1 (valued c.args.values.now) c.in-Some.p (could) in
+    could_range c.args.t.now.words.now c.args.t.now.places c.args.t.now.laid c.args.at c.requires (valued c.args.values.now) c.in-Some.p (could) in
     (range).0
 
 pub overflow_add-result : goal.overflow_add-result
 overflow_add-result c =
     let place : c.past-place.result ≤ 16384 =
-    omega (arith, c.past-place.ensures, c.requires.1.poss.fits, c.requires.0.short) in
-    let could : could_of (valued c.args.values.now) (rule_at c.args.t.now c.args.at) ≡ Some c.in-Some.p = sym c.could_add.ensures ∙ c.in-Some.is in
+    omega (arith, c.past-place.ensures, c.requires.poss.fits, c.args.t.now.laid.short) in
+    let could : could_of (valued c.args.values.now) (rule_at c.args.t.now.words.now c.args.at) ≡ Some c.in-Some.p = sym c.could_add.ensures ∙ c.in-Some.is in
     let range : In 256 c.in-Some.p =
-    could_range c.args.t.now c.args.tb c.requires.0 c.args.at c.requires.1 (valued c.args.values.now) c.in-Some.p (could) in
+    could_range c.args.t.now.words.now c.args.t.now.places c.args.t.now.laid c.args.at c.requires (valued c.args.values.now) c.in-Some.p (could) in
     omega (arith, place, (range).1)
 
 pub overflow_cast-result : goal.overflow_cast-result
 overflow_cast-result c =
     let place : c.past-place.result ≤ 16384 =
-    omega (arith, c.past-place.ensures, c.requires.1.poss.fits, c.requires.0.short) in
-    let could : could_of (valued c.args.values.now) (rule_at c.args.t.now c.args.at) ≡ Some c.in-Some.p = sym c.could_add.ensures ∙ c.in-Some.is in
+    omega (arith, c.past-place.ensures, c.requires.poss.fits, c.args.t.now.laid.short) in
+    let could : could_of (valued c.args.values.now) (rule_at c.args.t.now.words.now c.args.at) ≡ Some c.in-Some.p = sym c.could_add.ensures ∙ c.in-Some.is in
     let range : In 256 c.in-Some.p =
-    could_range c.args.t.now c.args.tb c.requires.0 c.args.at c.requires.1 (valued c.args.values.now) c.in-Some.p (could) in
+    could_range c.args.t.now.words.now c.args.t.now.places c.args.t.now.laid c.args.at c.requires (valued c.args.values.now) c.in-Some.p (could) in
     omega (arith, place, (range).1)
 
 pub returns : goal.returns
 returns c =
-    let could : could_of (valued c.args.values.now) (rule_at c.args.t.now c.args.at) ≡ Some c.in-Some.p = sym c.could_add.ensures ∙ c.in-Some.is in
+    let could : could_of (valued c.args.values.now) (rule_at c.args.t.now.words.now c.args.at) ≡ Some c.in-Some.p = sym c.could_add.ensures ∙ c.in-Some.is in
     let p = c.in-Some.p in
-    let j = pos_at c.args.t.now c.args.at in
+    let j = pos_at c.args.t.now.words.now c.args.at in
     sym (ap (λ (x : Option ℕ). code_by x j) (could) ∙ code_is j p ∙ ap (λ (k : ℕ). k * 256 + (p - 1)) (sym c.past-place.ensures))

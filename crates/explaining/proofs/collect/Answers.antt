@@ -17,19 +17,19 @@ use Rattle.explaining.proofs.collect.Goals as goal
 pub code-requires : goal.code-requires
 code-requires c =
     let a = valued c.args.values.now in
-    let t = c.args.t.now in
-    let tb = c.args.tb in
+    let t = c.args.t.now.words.now in
+    let tb = c.args.t.now.places in
     let k = c.loop-k.k in
     let left : 0 < tb.rules - k = omega arith in
     let lies : RuleLies tb.atoms tb.aggregates t c.loop-k.at × RulesLie tb.atoms tb.aggregates t (past_rule t c.loop-k.at) (tb.rules - k - 1) =
     lies_on t c.loop-k.at tb.atoms tb.aggregates (tb.rules - k) left c.loop-k.invariant.1 in
-    (c.requires.0, lies.0)
+    lies.0
 
 pub past_rule-at-requires : goal.past_rule-at-requires
 past_rule-at-requires c =
     let a = valued c.args.values.now in
-    let t = c.args.t.now in
-    let tb = c.args.tb in
+    let t = c.args.t.now.words.now in
+    let tb = c.args.t.now.places in
     let k = c.loop-k.k in
     let left : 0 < tb.rules - k = omega arith in
     let lies : RuleLies tb.atoms tb.aggregates t c.loop-k.at × RulesLie tb.atoms tb.aggregates t (past_rule t c.loop-k.at) (tb.rules - k - 1) =
@@ -39,13 +39,13 @@ past_rule-at-requires c =
 pub loop-k-preserved : goal.loop-k-preserved
 loop-k-preserved c =
     let a = valued c.args.values.now in
-    let t = c.args.t.now in
-    let tb = c.args.tb in
+    let t = c.args.t.now.words.now in
+    let tb = c.args.t.now.places in
     let k = c.loop-k.k in
     let left : 0 < tb.rules - k = omega arith in
     let lies : RuleLies tb.atoms tb.aggregates t c.loop-k.at × RulesLie tb.atoms tb.aggregates t (past_rule t c.loop-k.at) (tb.rules - k - 1) =
     lies_on t c.loop-k.at tb.atoms tb.aggregates (tb.rules - k) left c.loop-k.invariant.1 in
-    let room : k < length c.loop-k.list = omega (arith, c.loop-k-test.true, c.loop-k.invariant.0, c.requires.0.few_rules) in
+    let room : k < length c.loop-k.list = omega (arith, c.loop-k-test.true, c.loop-k.invariant.0, c.args.t.now.laid.few_rules) in
     let n = tb.rules - k - 1 in
     let x = c.code.result in
     let all = codes_from a t tb.first tb.rules in
@@ -59,9 +59,9 @@ loop-k-preserved c =
 
 pub returns : goal.returns
 returns c =
-    let tb = c.args.tb in
-    let all = codes_from (valued c.args.values.now) c.args.t.now tb.first tb.rules in
+    let tb = c.args.t.now.places in
+    let all = codes_from (valued c.args.values.now) c.args.t.now.words.now tb.first tb.rules in
     let e : c.loop-k.k ≡ tb.rules = omega arith in
     subst (λ (n : ℕ). Stands all c.loop-k.list n) e
-    (stands_i c.loop-k.list c.loop-k.k (codes_from (valued c.args.values.now) c.args.t.now c.loop-k.at (tb.rules - c.loop-k.k)) all c.loop-k.invariant.0 (omega (arith, e, c.requires.0.few_rules)) c.loop-k.invariant.2
-    (codes_none (valued c.args.values.now) c.args.t.now c.loop-k.at (tb.rules - c.loop-k.k) (omega arith)))
+    (stands_i c.loop-k.list c.loop-k.k (codes_from (valued c.args.values.now) c.args.t.now.words.now c.loop-k.at (tb.rules - c.loop-k.k)) all c.loop-k.invariant.0 (omega (arith, e, c.args.t.now.laid.few_rules)) c.loop-k.invariant.2
+    (codes_none (valued c.args.values.now) c.args.t.now.words.now c.loop-k.at (tb.rules - c.loop-k.k) (omega arith)))

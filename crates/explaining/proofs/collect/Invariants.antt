@@ -11,5 +11,5 @@ use Rattle.explaining.proofs.collect.Given as goal
 
 abbrev pub invariant-loop-k : goal.invariant-loop-k
 invariant-loop-k l =
-    (length l.list ≡ 1024) × RulesLie l.tb.atoms l.tb.aggregates l.t l.at (l.tb.rules - l.k)
-    × (take l.k l.list ++ codes_from (valued l.values) l.t l.at (l.tb.rules - l.k) ≡ codes_from (valued l.values) l.t l.tb.first l.tb.rules)
+    (length l.list ≡ 1024) × RulesLie l.t.places.atoms l.t.places.aggregates l.t.words.now l.at (l.t.places.rules - l.k)
+    × (take l.k l.list ++ codes_from (valued l.values) l.t.words.now l.at (l.t.places.rules - l.k) ≡ codes_from (valued l.values) l.t.words.now l.t.places.first l.t.places.rules)

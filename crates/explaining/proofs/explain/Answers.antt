@@ -30,7 +30,7 @@ loop-i-preserved c =
 
 pub returns : goal.returns
 returns c =
-    let n = c.args.tb.atoms in
+    let n = c.args.t.now.places.atoms in
     let ws = c.mark-marks.result in
     let rs = c.loop-i.it.records in
     let e : c.loop-i.i ≡ 256 = omega arith in
@@ -38,5 +38,5 @@ returns c =
       same = c.loop-i.invariant.2;
       whys = kept_all ws rs c.loop-i.invariant.0 c.loop-i.invariant.1
           (subst (Below (λ (j : ℕ). get_or ws j no_why) (λ (j : ℕ). why_in (get_or rs j blank))) e c.loop-i.invariant.3)
-          ∙ c.mark-marks.ensures ∙ marks_are_whys (program_of c.args.t.now c.args.tb) (true_atoms n (valued c.args.it.values)) n;
+          ∙ c.mark-marks.ensures ∙ marks_are_whys (program_of c.args.t.now.words.now c.args.t.now.places) (true_atoms n (valued c.args.it.values)) n;
     }

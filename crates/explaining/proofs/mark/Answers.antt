@@ -20,10 +20,10 @@ loop-k-init c = c.nothing-marks.ensures.each ∙ sym (after_none _ _)
 
 pub walk-requires : goal.walk-requires
 walk-requires c =
-    let tb = c.args.tb in
-    let laid = c.requires.0 in
+    let tb = c.args.t.now.places in
+    let laid = c.args.t.now.laid in
     let e = c.collect.ensures in (
-      subst (FitCodes c.args.t.now) (sym e.same) (codes_fit c.args.t.now tb laid (valued c.args.values.now) tb.first tb.rules laid.rules_lie),
+      subst (FitCodes c.args.t.now.words.now) (sym e.same) (codes_fit c.args.t.now.words.now tb laid (valued c.args.values.now) tb.first tb.rules laid.rules_lie),
       laid.few_rules,
       omega (arith, e.sized, laid.few_rules),
     )
@@ -31,8 +31,8 @@ walk-requires c =
 -- it adds nothing: the marks are those of all rounds
 pub returns-then-not-walk : goal.returns-then-not-walk
 returns-then-not-walk c =
-    let t = c.args.t.now in
-    let tb = c.args.tb in
+    let t = c.args.t.now.words.now in
+    let tb = c.args.t.now.places in
     let a = valued c.args.values.now in
     let k = c.loop-k.k in
     let w = whys_in c.loop-k.marks in
@@ -40,13 +40,13 @@ returns-then-not-walk c =
     c.walk.ensures.0
     ∙ ap (λ (r : ℕ). walk_codes t r 1 (take tb.rules c.collect.new.list) w) (add-one k)
     ∙ ap (λ (l : List ℕ). walk_codes t (suc k) 1 l w) c.collect.ensures.same
-    ∙ rounds_on t tb c.requires.0 a c.requires.1 k w c.loop-k.invariant in
-    on ∙ quiet_ends t tb c.requires.0 a c.requires.1 k tb.atoms (omega arith) (sym on ∙ c.walk.ensures.1 c.if-not-walk.true ∙ c.loop-k.invariant)
+    ∙ rounds_on t tb c.args.t.now.laid a c.requires k w c.loop-k.invariant in
+    on ∙ quiet_ends t tb c.args.t.now.laid a c.requires k tb.atoms (omega arith) (sym on ∙ c.walk.ensures.1 c.if-not-walk.true ∙ c.loop-k.invariant)
 
 pub loop-k-preserved : goal.loop-k-preserved
 loop-k-preserved c =
-    let t = c.args.t.now in
-    let tb = c.args.tb in
+    let t = c.args.t.now.words.now in
+    let tb = c.args.t.now.places in
     let a = valued c.args.values.now in
     let k = c.loop-k.k in
     let w = whys_in c.loop-k.marks in
@@ -54,5 +54,5 @@ loop-k-preserved c =
     c.walk.ensures.0
     ∙ ap (λ (r : ℕ). walk_codes t r 1 (take tb.rules c.collect.new.list) w) (add-one k)
     ∙ ap (λ (l : List ℕ). walk_codes t (suc k) 1 l w) c.collect.ensures.same
-    ∙ rounds_on t tb c.requires.0 a c.requires.1 k w c.loop-k.invariant in
+    ∙ rounds_on t tb c.args.t.now.laid a c.requires k w c.loop-k.invariant in
     on ∙ ap (marks_after (program_of t tb) (true_atoms tb.atoms a)) (sym (add-one k))

@@ -10,4 +10,4 @@ use Rattle.explaining.proofs.mark.Given as goal
 
 abbrev pub invariant-loop-k : goal.invariant-loop-k
 invariant-loop-k l =
-    whys_in l.marks ≡ marks_after (program_of l.t l.tb) (true_atoms l.tb.atoms (valued l.values)) l.k
+    whys_in l.marks ≡ marks_after (program_of l.t.words.now l.t.places) (true_atoms l.t.places.atoms (valued l.values)) l.k

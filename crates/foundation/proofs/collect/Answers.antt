@@ -22,18 +22,18 @@ use lib.ListN.{length}
 pub could_add-requires : goal.could_add-requires
 could_add-requires c =
     let a = valued c.args.values.now in
-    let t = c.args.t.now in
-    let tb = c.args.tb in
+    let t = c.args.t.now.words.now in
+    let tb = c.args.t.now.places in
     let left : 0 < tb.rules - c.loop.counter = omega arith in
     let lies : RuleLies tb.atoms tb.aggregates t c.loop.at × RulesLie tb.atoms tb.aggregates t (past_rule t c.loop.at) (tb.rules - c.loop.counter - 1) =
     lies_on t c.loop.at tb.atoms tb.aggregates (tb.rules - c.loop.counter) left c.loop.invariant.2 in
-    (c.requires.0, lies.0)
+    lies.0
 
 pub past-place-requires : goal.past-place-requires
 past-place-requires c =
     let a = valued c.args.values.now in
-    let t = c.args.t.now in
-    let tb = c.args.tb in
+    let t = c.args.t.now.words.now in
+    let tb = c.args.t.now.places in
     let left : 0 < tb.rules - c.loop.counter = omega arith in
     let lies : RuleLies tb.atoms tb.aggregates t c.loop.at × RulesLie tb.atoms tb.aggregates t (past_rule t c.loop.at) (tb.rules - c.loop.counter - 1) =
     lies_on t c.loop.at tb.atoms tb.aggregates (tb.rules - c.loop.counter) left c.loop.invariant.2 in
@@ -42,8 +42,8 @@ past-place-requires c =
 pub past_rule-at-requires : goal.past_rule-at-requires
 past_rule-at-requires c =
     let a = valued c.args.values.now in
-    let t = c.args.t.now in
-    let tb = c.args.tb in
+    let t = c.args.t.now.words.now in
+    let tb = c.args.t.now.places in
     let left : 0 < tb.rules - c.loop.counter = omega arith in
     let lies : RuleLies tb.atoms tb.aggregates t c.loop.at × RulesLie tb.atoms tb.aggregates t (past_rule t c.loop.at) (tb.rules - c.loop.counter - 1) =
     lies_on t c.loop.at tb.atoms tb.aggregates (tb.rules - c.loop.counter) left c.loop.invariant.2 in
@@ -52,57 +52,57 @@ past_rule-at-requires c =
 pub overflow_mul-place : goal.overflow_mul-place
 overflow_mul-place c =
     let a = valued c.args.values.now in
-    let t = c.args.t.now in
-    let tb = c.args.tb in
+    let t = c.args.t.now.words.now in
+    let tb = c.args.t.now.places in
     let left : 0 < tb.rules - c.loop.counter = omega arith in
     let lies : RuleLies tb.atoms tb.aggregates t c.loop.at × RulesLie tb.atoms tb.aggregates t (past_rule t c.loop.at) (tb.rules - c.loop.counter - 1) =
     lies_on t c.loop.at tb.atoms tb.aggregates (tb.rules - c.loop.counter) left c.loop.invariant.2 in
-    let place : c.past-place.result ≤ 16384 = omega (arith, c.past-place.ensures, lies.0.poss.fits, c.requires.0.short) in
+    let place : c.past-place.result ≤ 16384 = omega (arith, c.past-place.ensures, lies.0.poss.fits, c.args.t.now.laid.short) in
     omega (arith, place)
 
 pub overflow_sub-word : goal.overflow_sub-word
 overflow_sub-word c =
     let a = valued c.args.values.now in
-    let t = c.args.t.now in
-    let tb = c.args.tb in
+    let t = c.args.t.now.words.now in
+    let tb = c.args.t.now.places in
     let left : 0 < tb.rules - c.loop.counter = omega arith in
     let lies : RuleLies tb.atoms tb.aggregates t c.loop.at × RulesLie tb.atoms tb.aggregates t (past_rule t c.loop.at) (tb.rules - c.loop.counter - 1) =
     lies_on t c.loop.at tb.atoms tb.aggregates (tb.rules - c.loop.counter) left c.loop.invariant.2 in
     let could : could_of a (rule_at t c.loop.at) ≡ Some c.in-Some.p = sym c.could_add.ensures ∙ c.in-Some.is in
-    let range : In 256 c.in-Some.p = could_range t tb c.requires.0 c.loop.at lies.0 a c.in-Some.p could in
+    let range : In 256 c.in-Some.p = could_range t tb c.args.t.now.laid c.loop.at lies.0 a c.in-Some.p could in
     range.0
 
 pub overflow_add-word : goal.overflow_add-word
 overflow_add-word c =
     let a = valued c.args.values.now in
-    let t = c.args.t.now in
-    let tb = c.args.tb in
+    let t = c.args.t.now.words.now in
+    let tb = c.args.t.now.places in
     let left : 0 < tb.rules - c.loop.counter = omega arith in
     let lies : RuleLies tb.atoms tb.aggregates t c.loop.at × RulesLie tb.atoms tb.aggregates t (past_rule t c.loop.at) (tb.rules - c.loop.counter - 1) =
     lies_on t c.loop.at tb.atoms tb.aggregates (tb.rules - c.loop.counter) left c.loop.invariant.2 in
-    let place : c.past-place.result ≤ 16384 = omega (arith, c.past-place.ensures, lies.0.poss.fits, c.requires.0.short) in
+    let place : c.past-place.result ≤ 16384 = omega (arith, c.past-place.ensures, lies.0.poss.fits, c.args.t.now.laid.short) in
     let could : could_of a (rule_at t c.loop.at) ≡ Some c.in-Some.p = sym c.could_add.ensures ∙ c.in-Some.is in
-    let range : In 256 c.in-Some.p = could_range t tb c.requires.0 c.loop.at lies.0 a c.in-Some.p could in
+    let range : In 256 c.in-Some.p = could_range t tb c.args.t.now.laid c.loop.at lies.0 a c.in-Some.p could in
     omega (arith, place, range.1)
 
 pub overflow_cast-list : goal.overflow_cast-list
 overflow_cast-list c =
     let a = valued c.args.values.now in
-    let t = c.args.t.now in
-    let tb = c.args.tb in
+    let t = c.args.t.now.words.now in
+    let tb = c.args.t.now.places in
     let left : 0 < tb.rules - c.loop.counter = omega arith in
     let lies : RuleLies tb.atoms tb.aggregates t c.loop.at × RulesLie tb.atoms tb.aggregates t (past_rule t c.loop.at) (tb.rules - c.loop.counter - 1) =
     lies_on t c.loop.at tb.atoms tb.aggregates (tb.rules - c.loop.counter) left c.loop.invariant.2 in
-    let place : c.past-place.result ≤ 16384 = omega (arith, c.past-place.ensures, lies.0.poss.fits, c.requires.0.short) in
+    let place : c.past-place.result ≤ 16384 = omega (arith, c.past-place.ensures, lies.0.poss.fits, c.args.t.now.laid.short) in
     let could : could_of a (rule_at t c.loop.at) ≡ Some c.in-Some.p = sym c.could_add.ensures ∙ c.in-Some.is in
-    let range : In 256 c.in-Some.p = could_range t tb c.requires.0 c.loop.at lies.0 a c.in-Some.p could in
+    let range : In 256 c.in-Some.p = could_range t tb c.args.t.now.laid c.loop.at lies.0 a c.in-Some.p could in
     omega (arith, place, range.1)
 
 pub loop-preserved : goal.loop-preserved
 loop-preserved c =
     let a = valued c.args.values.now in
-    let t = c.args.t.now in
-    let tb = c.args.tb in
+    let t = c.args.t.now.words.now in
+    let tb = c.args.t.now.places in
     let left : 0 < tb.rules - c.loop.counter = omega arith in
     let lies : RuleLies tb.atoms tb.aggregates t c.loop.at × RulesLie tb.atoms tb.aggregates t (past_rule t c.loop.at) (tb.rules - c.loop.counter - 1) =
     lies_on t c.loop.at tb.atoms tb.aggregates (tb.rules - c.loop.counter) left c.loop.invariant.2 in
@@ -117,7 +117,7 @@ loop-preserved c =
           let x = w.past-place.result * 256 + (p - 1) in
           let e = candidates_on a t c.loop.at (tb.rules - c.loop.counter) left (Some p) (sym c.could_add.ensures ∙ w.in-Some.is) in
           let f : code_of (pos_at t c.loop.at) p ≡ x = code_is (pos_at t c.loop.at) p ∙ ap (λ (j : ℕ). j * 256 + (p - 1)) (sym w.past-place.ensures) in
-          let room : c.loop.number < length c.loop.list = omega (arith, c.loop.invariant.0, c.loop.invariant.1, c.requires.0.few_rules, c.loop-test.true) in
+          let room : c.loop.number < length c.loop.list = omega (arith, c.loop.invariant.0, c.loop.invariant.1, c.args.t.now.laid.few_rules, c.loop-test.true) in
           rw (w.number-is, w.list-is) (
             omega (arith, c.loop.invariant.0),
             length-set c.loop.list c.loop.number x ∙ c.loop.invariant.1,
@@ -134,8 +134,8 @@ loop-preserved c =
 
 pub returns : goal.returns
 returns c =
-    let tb = c.args.tb in
-    stands_i c.loop.list c.loop.number (candidates_from (valued c.args.values.now) (c.args.t.now) c.loop.at (tb.rules - c.loop.counter))
-    (candidates_from (valued c.args.values.now) (c.args.t.now) tb.first tb.rules)
-    c.loop.invariant.1 (omega (arith, c.loop.invariant.0, c.requires.0.few_rules)) c.loop.invariant.3
-    (candidates_none (valued c.args.values.now) (c.args.t.now) c.loop.at (tb.rules - c.loop.counter) (omega arith))
+    let tb = c.args.t.now.places in
+    stands_i c.loop.list c.loop.number (candidates_from (valued c.args.values.now) (c.args.t.now.words.now) c.loop.at (tb.rules - c.loop.counter))
+    (candidates_from (valued c.args.values.now) (c.args.t.now.words.now) tb.first tb.rules)
+    c.loop.invariant.1 (omega (arith, c.loop.invariant.0, c.args.t.now.laid.few_rules)) c.loop.invariant.3
+    (candidates_none (valued c.args.values.now) (c.args.t.now.words.now) c.loop.at (tb.rules - c.loop.counter) (omega arith))

@@ -11,5 +11,5 @@ use Rattle.foundation.proofs.collect.Given as goal
 
 abbrev pub invariant-loop : goal.invariant-loop
 invariant-loop l =
-    (l.number ≤ l.counter) × (length l.list ≡ 1024) × RulesLie l.tb.atoms l.tb.aggregates l.t l.at (l.tb.rules - l.counter)
-    × (take l.number l.list ++ candidates_from (valued l.values) l.t l.at (l.tb.rules - l.counter) ≡ candidates_from (valued l.values) l.t l.tb.first l.tb.rules)
+    (l.number ≤ l.counter) × (length l.list ≡ 1024) × RulesLie l.t.places.atoms l.t.places.aggregates l.t.words.now l.at (l.t.places.rules - l.counter)
+    × (take l.number l.list ++ candidates_from (valued l.values) l.t.words.now l.at (l.t.places.rules - l.counter) ≡ candidates_from (valued l.values) l.t.words.now l.t.places.first l.t.places.rules)

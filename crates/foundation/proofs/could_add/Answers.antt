@@ -13,7 +13,7 @@ pub returns-in_err-p : goal.returns-in_err-p
 returns-in_err-p c =
     let a = valued c.args.values.now in
     let found = ap (λ (l : List ℤ). sole_of a (atoms l)) (sym c.part-head.ensures) in
-    c.from_residual.ensures ∙ sym (could_none a c.args.t.now c.args.at (found ∙ sym c.sole.ensures ∙ c.in_err-p.was))
+    c.from_residual.ensures ∙ sym (could_none a c.args.t.now.words.now c.args.at (found ∙ sym c.sole.ensures ∙ c.in_err-p.was))
 
 pub returns : goal.returns
 returns c =
@@ -22,4 +22,4 @@ returns c =
     c.then_some.ensures
     ∙ then_if c.rest_true.result c.in_ok-p.p
     ∙ ap (λ (b : Bool). add_if b c.in_ok-p.p) c.rest_true.ensures
-    ∙ sym (could_atom a c.args.t.now c.args.at c.in_ok-p.p (found ∙ sym c.sole.ensures ∙ c.in_ok-p.was))
+    ∙ sym (could_atom a c.args.t.now.words.now c.args.at c.in_ok-p.p (found ∙ sym c.sole.ensures ∙ c.in_ok-p.was))

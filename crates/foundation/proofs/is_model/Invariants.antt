@@ -11,5 +11,5 @@ use Rattle.foundation.proofs.is_model.Given as goal
 
 abbrev pub invariant-loop : goal.invariant-loop
 invariant-loop l =
-    RulesLie l.tb.atoms l.tb.aggregates l.t l.at (l.tb.rules - l.counter)
-    × (model (rules_from l.t l.at (l.tb.rules - l.counter)) (true_atoms l.tb.atoms (valued l.values)) ≡ model (program_of l.t l.tb) (true_atoms l.tb.atoms (valued l.values)))
+    RulesLie l.t.places.atoms l.t.places.aggregates l.t.words.now l.at (l.t.places.rules - l.counter)
+    × (model (rules_from l.t.words.now l.at (l.t.places.rules - l.counter)) (true_atoms l.t.places.atoms (valued l.values)) ≡ model (program_of l.t.words.now l.t.places) (true_atoms l.t.places.atoms (valued l.values)))

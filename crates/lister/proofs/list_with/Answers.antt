@@ -20,26 +20,29 @@ use Rattle.lister.specs.Telling.{result_of}
 use Rattle.lister.proofs.Entry.{listing_refused, listing_accepted, told_by_lem}
 use Rattle.lister.proofs.list_with.Goals as goal
 
+pub invariant_of-t : goal.invariant_of-t
+invariant_of-t c =
+    record { laid = (judged_taken c.args.words.now (Rows (length c.args.rows.now)) (Ok c.in_ok-places.places) c.in_ok-places.places c.in_ok-places.ensures.0 refl).2.laid }
+
 pub list_by-told-requires : goal.list_by-told-requires
 list_by-told-requires c =
     let a = c.args in
-    let tb = c.in_ok-tb.tb in
-    let j = c.in_ok-tb.ensures in
-    let taken = judged_taken a.words.now (Rows (length a.rows.now)) (Ok tb) tb j.0 refl in
-    (taken.2.laid, (j.1 tb refl).listed)
+    let tb = c.in_ok-places.places in
+    let j = c.in_ok-places.ensures in
+    (j.1 tb refl).listed
 
-pub returns-in_err-tb : goal.returns-in_err-tb
-returns-in_err-tb c =
+pub returns-in_err-places : goal.returns-in_err-places
+returns-in_err-places c =
     let a = c.args in
-    let f = c.in_err-tb.field-0.0 in
-    listing_refused a.words.now a.ask a.rows.now a.rows.now c.from_residual.result f (judged_refused a.words.now (Rows (length a.rows.now)) (Err f) f c.in_err-tb.ensures.0 refl)
+    let f = c.in_err-places.field-0.0 in
+    listing_refused a.words.now a.ask a.rows.now a.rows.now c.from_residual.result f (judged_refused a.words.now (Rows (length a.rows.now)) (Err f) f c.in_err-places.ensures.0 refl)
     (ends _ _ c.from_residual.ensures.1) refl
 
 pub returns : goal.returns
 returns c =
     let a = c.args in
-    let tb = c.in_ok-tb.tb in
-    let j = c.in_ok-tb.ensures in
+    let tb = c.in_ok-places.places in
+    let j = c.in_ok-places.ensures in
     let x = judged_taken a.words.now (Rows (length a.rows.now)) (Ok tb) tb j.0 refl in
     let d = x.0 in
     let p = x.2 in

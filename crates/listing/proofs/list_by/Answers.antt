@@ -35,10 +35,10 @@ loop-plan-init c =
     let z = g.1 in
     let y = g.2 in
     let d : s.it.depth ≡ 0 = ap (λ (x : Interpretation). x.level) e in
-    let Q = base_by a.cycles (taking a.t.now a.lists.now) a.tb.atoms in
+    let Q = base_by a.cycles (taking a.t.now.words.now a.lists.now) a.t.now.places.atoms in
     let f : record { interpretation = view s.it; reason = rows c.no_rows-reasons.result; choices = s.choices; skips = s.skips; passes = s.passes; skipped = [] } ≡ start Q =
     λ j. record { interpretation = e j; reason = c.no_rows-reasons.ensures j; choices = z j; skips = y j; passes = g.3 j; skipped = [] } in (
-      record { ordered = subst (Ordered a.tb.atoms) (sym e) (ordered_start a.tb.atoms); paid = omega (arith, d, z, y); few = omega (arith, z) },
+      record { ordered = subst (Ordered a.t.now.places.atoms) (sym e) (ordered_start a.t.now.places.atoms); paid = omega (arith, d, z, y); few = omega (arith, z) },
       omega arith,
       refl,
       record { plans = []; past = []; skipped = []; count = refl; rows = listed_none a.rows.now; ends = λ o x. subst (λ (k : State). ListEnds Q jump a.limit (length a.rows.now / 256) (alone k) o) f x },
@@ -63,14 +63,14 @@ returns-then-room-number c =
 
 -- ---- a plan was found: the search may go on from there
 
-ready : (c : In-Answer) → Ready c.args.tb.atoms c.args.limit (start_at c.search_by-halt.result.found)
+ready : (c : In-Answer) → Ready c.args.t.now.places.atoms c.args.limit (start_at c.search_by-halt.result.found)
 ready c = (c.search_by-halt.ensures c.loop-plan.invariant.3.skipped).again c.in-Answer.is
 
 pub after_plan-back-requires : goal.after_plan-back-requires
 after_plan-back-requires c =
     let h = c.search_by-halt.result in
     let R = ready (goal.at.after_plan-back-requires c).In-Answer in
-    (deep c.args.tb.atoms c.args.limit c.requires.0.few_atoms h R, chosen_in c.args.tb.atoms c.args.limit c.requires.0.few_atoms h R)
+    (deep c.args.t.now.places.atoms c.args.limit c.args.t.now.laid.few_atoms h R, chosen_in c.args.t.now.places.atoms c.args.limit c.args.t.now.laid.few_atoms h R)
 
 -- ---- its row was written
 
@@ -81,14 +81,14 @@ module _ (c : After-write_row) where
   fits : c.loop-plan.number * 256 + 256 ≤ length c.loop-plan.rows
   fits = room_fits c.loop-plan.number (length c.args.rows.now) free c.loop-plan.invariant.2
 
-  wrote : c.write_row.new.rows ≡ row_put (true_atoms c.args.tb.atoms (view c.search_by-halt.result.found.it).cell) (c.loop-plan.number * 256) 256 c.loop-plan.rows
+  wrote : c.write_row.new.rows ≡ row_put (true_atoms c.args.t.now.places.atoms (view c.search_by-halt.result.found.it).cell) (c.loop-plan.number * 256) 256 c.loop-plan.rows
   wrote =
       let i = c.search_by-halt.result.found.it in
-      c.write_row.ensures ∙ ap (λ (Y : Atoms). row_put Y (c.loop-plan.number * 256) 256 c.loop-plan.rows) (sym (trues_alone c.args.tb.atoms i.values i.records))
+      c.write_row.ensures ∙ ap (λ (Y : Atoms). row_put Y (c.loop-plan.number * 256) 256 c.loop-plan.rows) (sym (trues_alone c.args.t.now.places.atoms i.values i.records))
 
   kept : length c.write_row.new.rows ≡ length c.args.rows.now
   kept =
-      ap length wrote ∙ put_long (true_atoms c.args.tb.atoms (view c.search_by-halt.result.found.it).cell) (c.loop-plan.number * 256) 256 c.loop-plan.rows fits
+      ap length wrote ∙ put_long (true_atoms c.args.t.now.places.atoms (view c.search_by-halt.result.found.it).cell) (c.loop-plan.number * 256) 256 c.loop-plan.rows fits
       ∙ c.loop-plan.invariant.2
 
 pub returns-in-End : goal.returns-in-End
@@ -103,7 +103,7 @@ returns-in-End c =
 
 left : (c : In-Level) → Leaves c.search_by-halt.result.found.it c.in-Level.m c.in-Level.a
 left c =
-    leaves c.args.tb.atoms c.args.limit c.requires.0.few_atoms c.search_by-halt.result ((c.search_by-halt.ensures c.loop-plan.invariant.3.skipped).again c.in-Answer.is)
+    leaves c.args.t.now.places.atoms c.args.limit c.args.t.now.laid.few_atoms c.search_by-halt.result ((c.search_by-halt.ensures c.loop-plan.invariant.3.skipped).again c.in-Answer.is)
     c.in-Level.m c.in-Level.a c.in-Level.field-2 (sym c.after_plan-back.ensures ∙ c.in-Level.is)
 
 pub overflow_sub-i : goal.overflow_sub-i
@@ -144,7 +144,7 @@ loop-plan-smaller c =
     let D = c.loop-plan.invariant.3 in
     let w = (goal.at.loop-plan-smaller c).After-write_row in
     let x = left (goal.at.loop-plan-smaller c).In-Level in
-    let n = c.args.tb.atoms in
+    let n = c.args.t.now.places.atoms in
     let lim = c.args.limit in
     subst (λ (s : Start). (lim - s.choices) * suc n + s.it.depth < (lim - c.loop-plan.from.choices) * suc n + c.loop-plan.from.it.depth) (sym c.again-from.ensures)
     (falls_by _ _ _ _ _ _ _ _ _ _ _ D _ (c.search_by-halt.ensures D.skipped) c.in-Answer.is (free w) (wrote w) c.in-Level.m c.in-Level.a x
@@ -156,12 +156,12 @@ loop-plan-preserved c =
     let S = c.search_by-halt.ensures D.skipped in
     let w = (goal.at.loop-plan-preserved c).After-write_row in
     let x = left (goal.at.loop-plan-preserved c).In-Level in
-    let n = c.args.tb.atoms in
+    let n = c.args.t.now.places.atoms in
     let lim = c.args.limit in
     let old = c.args.rows.now in
-    let P = base_by c.args.cycles (taking c.args.t.now c.args.lists.now) n in (
+    let P = base_by c.args.cycles (taking c.args.t.now.words.now c.args.lists.now) n in (
       subst (Ready n lim) (sym c.again-from.ensures)
-          (ready_on n lim c.requires.0.few_atoms c.search_by-halt.result (S.again c.in-Answer.is) c.in-Level.m c.in-Level.a x c.jump-it.result c.jump-it.ensures),
+          (ready_on n lim c.args.t.now.laid.few_atoms c.search_by-halt.result (S.again c.in-Answer.is) c.in-Level.m c.in-Level.a x c.jump-it.result c.jump-it.ensures),
       let l = free w in omega arith,
       kept w,
       subst (λ (s : Start). Done P lim (length old / 256) old c.write_row.new.rows s (set c.rows_of-next.result (c.in-Level.a - 1) c.without-rest.result) (c.loop-plan.number + 1)) (sym c.again-from.ensures)

@@ -21,4 +21,4 @@ returns c =
     let sign : int_le (pos 0) (to_z w32 (of_z w32 (get_or a.l.now a.k (pos 0)))) ≡ non_neg (get_or a.l.now a.k (pos 0)) = search rules in
     c.signed.ensures ∙ ap (λ (b : Bool). signed b c.aggregate_value-v.result) sign
     ∙ ap (signed (non_neg (get_or a.l.now a.k (pos 0)))) (c.aggregate_value-v.ensures
-    ∙ ap (λ (i : ℕ). aggregate_value X (aggregate_at a.t.now i)) (c.start-at.ensures ∙ place a.t.now a.tb p.0 a.l.now p.1 a.k p.2))
+    ∙ ap (λ (i : ℕ). aggregate_value X (aggregate_at a.t.now.words.now i)) (c.start-at.ensures ∙ place a.t.now.words.now a.t.now.places c.args.t.now.laid a.l.now p.0 a.k p.1))

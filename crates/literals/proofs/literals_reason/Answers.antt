@@ -16,10 +16,10 @@ loop-k-preserved c =
     let k = c.loop-k.k in
     let X = valued a.values.now in
     let R = rows a.reasons.now in
-    ap (λ (S : Levels). union (reasons_of X R (literal_lits a.t.now (drop (k + 1) a.l.now))) S) c.literal_reason-next.ensures
-    ∙ reasons_on a.l.now k X R (literal_of a.t.now) agg_lit c.loop-k-test.true (row c.loop-k.acc) ∙ c.loop-k.invariant
+    ap (λ (S : Levels). union (reasons_of X R (literal_lits a.t.now.words.now (drop (k + 1) a.l.now))) S) c.literal_reason-next.ensures
+    ∙ reasons_on a.l.now k X R (literal_of a.t.now.words.now) agg_lit c.loop-k-test.true (row c.loop-k.acc) ∙ c.loop-k.invariant
 
 pub returns : goal.returns
 returns c =
     let a = c.args in
-    sym (reasons_end a.l.now c.loop-k.k (valued a.values.now) (rows a.reasons.now) (literal_of a.t.now) agg_lit c.loop-k-test.false (row c.loop-k.acc)) ∙ c.loop-k.invariant
+    sym (reasons_end a.l.now c.loop-k.k (valued a.values.now) (rows a.reasons.now) (literal_of a.t.now.words.now) agg_lit c.loop-k-test.false (row c.loop-k.acc)) ∙ c.loop-k.invariant

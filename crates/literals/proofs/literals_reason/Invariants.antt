@@ -10,4 +10,4 @@ use Rattle.literals.proofs.literals_reason.Given as goal
 
 abbrev pub invariant-loop-k : goal.invariant-loop-k
 invariant-loop-k l =
-    union (reasons_of (valued l.values) (rows l.reasons) (literal_lits l.t (drop l.k l.l))) (row l.acc) ≡ union (reasons_of (valued l.values) (rows l.reasons) (literal_lits l.t l.l)) (row l.fn.more)
+    union (reasons_of (valued l.values) (rows l.reasons) (literal_lits l.t.words.now (drop l.k l.l))) (row l.acc) ≡ union (reasons_of (valued l.values) (rows l.reasons) (literal_lits l.t.words.now l.l)) (row l.fn.more)

@@ -39,18 +39,21 @@ slice_bounds-words-end c =
     let l = c.requires in
     sym (length-take-le c.number-count.result c.args.s.now (omega arith))
 
+pub invariant_of-t : goal.invariant_of-t
+invariant_of-t c =
+    record { laid = (judged_taken (take c.number-count.result c.args.s.now) (Plan (length c.args.plan.now)) (Ok c.in-Ok.places) c.in-Ok.places c.in-Ok.ensures.0 refl).2.laid }
+
 pub search-found-requires : goal.search-found-requires
 search-found-requires c =
     let a = c.args in
-    let tb = c.in-Ok.tb in
+    let tb = c.in-Ok.places in
     let j = c.in-Ok.ensures in
-    let taken = judged_taken (take c.number-count.result a.s.now) (Plan (length a.plan.now)) (Ok tb) tb j.0 refl in
-    (taken.2.laid, (j.1 tb refl).listed, c.requires)
+    ((j.1 tb refl).listed, c.requires)
 
 pub report-solved-requires : goal.report-solved-requires
 report-solved-requires c =
     let a = c.args in
-    let tb = c.in-Ok.tb in
+    let tb = c.in-Ok.places in
     let x = judged_taken (take c.number-count.result a.s.now) (Plan (length a.plan.now)) (Ok tb) tb c.in-Ok.ensures.0 refl in
     let f = x.2.laid.few_atoms in
     let w = plan_wide _ x.1.buffer in
@@ -59,9 +62,9 @@ report-solved-requires c =
 pub whys_by-whys-requires : goal.whys_by-whys-requires
 whys_by-whys-requires c =
     let a = c.args in
-    let tb = c.in-Ok.tb in
+    let tb = c.in-Ok.places in
     let taken = judged_taken (take c.number-count.result a.s.now) (Plan (length a.plan.now)) (Ok tb) tb c.in-Ok.ensures.0 refl in
-    (taken.2.laid, λ h. c.search-found.ensures.2 (answer_ended tb.atoms c.search-found.result c.report-solved.result c.report-solved.ensures.0 h))
+    (λ h. c.search-found.ensures.2 (answer_ended tb.atoms c.search-found.result c.report-solved.result c.report-solved.ensures.0 h))
 
 pub returns-in-Err : goal.returns-in-Err
 returns-in-Err c =
@@ -83,7 +86,7 @@ returns-in-Ok c =
     let t = take c.number-count.result a.s.now in
     let judged : t ≡ table_in a.s.now = ap (λ (k : ℕ). take k a.s.now) c.number-count.ensures in
     let m = c.takes_cycles-cycles.result in
-    let tb = c.in-Ok.tb in
+    let tb = c.in-Ok.places in
     let j = c.in-Ok.ensures in
     let pins = pins_in a.s.now in
     let x = judged_taken t (Plan (length a.plan.now)) (Ok tb) tb j.0 refl in

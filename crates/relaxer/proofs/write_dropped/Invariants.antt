@@ -11,5 +11,5 @@ use Rattle.relaxer.proofs.write_dropped.Given as goal
 
 abbrev pub invariant-loop-i : goal.invariant-loop-i
 invariant-loop-i l =
-    (l.n ≤ l.i) × (length l.dropped ≡ length l.initial.dropped) × (drop l.n l.dropped ≡ drop l.n l.initial.dropped) × RulesLie l.fn.tb.atoms l.fn.tb.aggregates l.t l.at (l.fn.tb.rules - l.i)
-    × (take l.n l.dropped ++ dropped_from (row l.kept) (suc l.i) (rules_from l.t l.at (l.fn.tb.rules - l.i)) ≡ dropped_of (program_of l.t l.fn.tb) (row l.kept))
+    (l.n ≤ l.i) × (length l.dropped ≡ length l.initial.dropped) × (drop l.n l.dropped ≡ drop l.n l.initial.dropped) × RulesLie l.fn.t.places.atoms l.fn.t.places.aggregates l.t.words.now l.at (l.fn.t.places.rules - l.i)
+    × (take l.n l.dropped ++ dropped_from (row l.kept) (suc l.i) (rules_from l.t.words.now l.at (l.fn.t.places.rules - l.i)) ≡ dropped_of (program_of l.t.words.now l.fn.t.places) (row l.kept))

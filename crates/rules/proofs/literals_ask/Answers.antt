@@ -19,16 +19,16 @@ pub returns-then-all : goal.returns-then-all
 returns-then-all c =
     let a = c.args in
     let n = length a.l.now in
-    let found : c.all.result ≡ list_all (true_at (literal_of a.t.now) agg_lit (valued a.values.now) a.l.now) (range_with_len 0 n) =
-    all_from_yields_List (true_at (literal_of a.t.now) agg_lit (valued a.values.now) a.l.now) _ _ _ c.all.ensures.ran (YieldsList-from_range 0 n n (cc) (omega arith)) (λ x b q k. search rules) in
-    ap (λ (b : Bool). cond b Conflict Nothing) (sym c.if-all.true ∙ found ∙ all_true_at (literal_of a.t.now) agg_lit (valued a.values.now) a.l.now)
-    ∙ sym (asks_literals (valued a.values.now) (map (literal_of a.t.now) a.l.now))
+    let found : c.all.result ≡ list_all (true_at (literal_of a.t.now.words.now) agg_lit (valued a.values.now) a.l.now) (range_with_len 0 n) =
+    all_from_yields_List (true_at (literal_of a.t.now.words.now) agg_lit (valued a.values.now) a.l.now) _ _ _ c.all.ensures.ran (YieldsList-from_range 0 n n (cc) (omega arith)) (λ x b q k. search rules) in
+    ap (λ (b : Bool). cond b Conflict Nothing) (sym c.if-all.true ∙ found ∙ all_true_at (literal_of a.t.now.words.now) agg_lit (valued a.values.now) a.l.now)
+    ∙ sym (asks_literals (valued a.values.now) (map (literal_of a.t.now.words.now) a.l.now))
 
 pub returns-else-all : goal.returns-else-all
 returns-else-all c =
     let a = c.args in
     let n = length a.l.now in
-    let found : c.all.result ≡ list_all (true_at (literal_of a.t.now) agg_lit (valued a.values.now) a.l.now) (range_with_len 0 n) =
-    all_from_yields_List (true_at (literal_of a.t.now) agg_lit (valued a.values.now) a.l.now) _ _ _ c.all.ensures.ran (YieldsList-from_range 0 n n (cc) (omega arith)) (λ x b q k. search rules) in
-    ap (λ (b : Bool). cond b Conflict Nothing) (sym c.if-all.false ∙ found ∙ all_true_at (literal_of a.t.now) agg_lit (valued a.values.now) a.l.now)
-    ∙ sym (asks_literals (valued a.values.now) (map (literal_of a.t.now) a.l.now))
+    let found : c.all.result ≡ list_all (true_at (literal_of a.t.now.words.now) agg_lit (valued a.values.now) a.l.now) (range_with_len 0 n) =
+    all_from_yields_List (true_at (literal_of a.t.now.words.now) agg_lit (valued a.values.now) a.l.now) _ _ _ c.all.ensures.ran (YieldsList-from_range 0 n n (cc) (omega arith)) (λ x b q k. search rules) in
+    ap (λ (b : Bool). cond b Conflict Nothing) (sym c.if-all.false ∙ found ∙ all_true_at (literal_of a.t.now.words.now) agg_lit (valued a.values.now) a.l.now)
+    ∙ sym (asks_literals (valued a.values.now) (map (literal_of a.t.now.words.now) a.l.now))

@@ -26,19 +26,19 @@ returns-then-made c =
     let a = c.args in
     let s = c.rule_steps-made.result in
     let w : Work = work_of a.level (cells_at c.loop-pass.values c.loop-pass.levels) c.loop-pass.changed false in
-    (c.rule_steps-made.ensures.0, pass_conflict (R a.t.now a.places.now a.tb.atoms a.candidate.now) (suc a.tb.atoms - c.loop-pass._pass) w _ (omega (arith, c.loop-pass-test.true)) c.loop-pass.invariant.1 a.level _ s.changed s.conflict c.rule_steps-made.ensures.1 c.if-made.true)
+    (c.rule_steps-made.ensures.0, pass_conflict (R a.t.now.words.now a.places.now a.t.now.places.atoms a.candidate.now) (suc a.t.now.places.atoms - c.loop-pass._pass) w _ (omega (arith, c.loop-pass-test.true)) c.loop-pass.invariant.1 a.level _ s.changed s.conflict c.rule_steps-made.ensures.1 c.if-made.true)
 
 pub returns-then-not-made : goal.returns-then-not-made
 returns-then-not-made c =
     let a = c.args in
     let s = c.rule_steps-made.result in
     let w : Work = work_of a.level (cells_at c.loop-pass.values c.loop-pass.levels) c.loop-pass.changed false in
-    (c.rule_steps-made.ensures.0, pass_rests (R a.t.now a.places.now a.tb.atoms a.candidate.now) (suc a.tb.atoms - c.loop-pass._pass) w _ (omega (arith, c.loop-pass-test.true)) c.loop-pass.invariant.1 a.level _ s.changed s.conflict c.rule_steps-made.ensures.1 c.if-made.false (not-true _ c.if-not-made.true))
+    (c.rule_steps-made.ensures.0, pass_rests (R a.t.now.words.now a.places.now a.t.now.places.atoms a.candidate.now) (suc a.t.now.places.atoms - c.loop-pass._pass) w _ (omega (arith, c.loop-pass-test.true)) c.loop-pass.invariant.1 a.level _ s.changed s.conflict c.rule_steps-made.ensures.1 c.if-made.false (not-true _ c.if-not-made.true))
 
 pub loop-pass-preserved : goal.loop-pass-preserved
 loop-pass-preserved c =
     let a = c.args in
     let s = c.rule_steps-made.result in
     let w : Work = work_of a.level (cells_at c.loop-pass.values c.loop-pass.levels) c.loop-pass.changed false in
-    let e : suc a.tb.atoms - (c.loop-pass._pass + 1) ≡ suc a.tb.atoms - c.loop-pass._pass - 1 = omega arith in
-    (c.rule_steps-made.ensures.0, subst (λ (k : ℕ). Like (passes (R a.t.now a.places.now a.tb.atoms a.candidate.now) 0 k (work_of a.level (cells_at c.rule_steps-made.new.values c.rule_steps-made.new.levels) true false)) (passes (R a.t.now a.places.now a.tb.atoms a.candidate.now) 0 (suc a.tb.atoms) (work_of a.level (cells_at a.values.now a.levels.now) false false))) (sym e) (pass_again (R a.t.now a.places.now a.tb.atoms a.candidate.now) (suc a.tb.atoms - c.loop-pass._pass) w _ (omega (arith, c.loop-pass-test.true)) c.loop-pass.invariant.1 a.level _ s.changed s.conflict c.rule_steps-made.ensures.1 c.if-made.false (not-false _ c.if-not-made.false)))
+    let e : suc a.t.now.places.atoms - (c.loop-pass._pass + 1) ≡ suc a.t.now.places.atoms - c.loop-pass._pass - 1 = omega arith in
+    (c.rule_steps-made.ensures.0, subst (λ (k : ℕ). Like (passes (R a.t.now.words.now a.places.now a.t.now.places.atoms a.candidate.now) 0 k (work_of a.level (cells_at c.rule_steps-made.new.values c.rule_steps-made.new.levels) true false)) (passes (R a.t.now.words.now a.places.now a.t.now.places.atoms a.candidate.now) 0 (suc a.t.now.places.atoms) (work_of a.level (cells_at a.values.now a.levels.now) false false))) (sym e) (pass_again (R a.t.now.words.now a.places.now a.t.now.places.atoms a.candidate.now) (suc a.t.now.places.atoms - c.loop-pass._pass) w _ (omega (arith, c.loop-pass-test.true)) c.loop-pass.invariant.1 a.level _ s.changed s.conflict c.rule_steps-made.ensures.1 c.if-made.false (not-false _ c.if-not-made.false)))

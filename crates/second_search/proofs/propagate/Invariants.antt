@@ -14,5 +14,5 @@ use Rattle.second_search.proofs.propagate.Given as goal
 abbrev pub invariant-loop-pass : goal.invariant-loop-pass
 invariant-loop-pass l =
     Whole l.values l.levels
-    × Like (passes (reduct (map (rule_at l.t) l.places) (true_atoms l.tb.atoms (valued l.candidate))) 0 (suc l.tb.atoms - l._pass) (work_of l.level (cells_at l.values l.levels) l.changed false))
-    (passes (reduct (map (rule_at l.t) l.places) (true_atoms l.tb.atoms (valued l.candidate))) 0 (suc l.tb.atoms) (work_of l.level (cells_at l.initial.values l.initial.levels) false false))
+    × Like (passes (reduct (map (rule_at l.t.words.now) l.places) (true_atoms l.t.places.atoms (valued l.candidate))) 0 (suc l.t.places.atoms - l._pass) (work_of l.level (cells_at l.values l.levels) l.changed false))
+    (passes (reduct (map (rule_at l.t.words.now) l.places) (true_atoms l.t.places.atoms (valued l.candidate))) 0 (suc l.t.places.atoms) (work_of l.level (cells_at l.initial.values l.initial.levels) false false))

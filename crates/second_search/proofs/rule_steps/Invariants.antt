@@ -14,5 +14,5 @@ use Rattle.second_search.proofs.rule_steps.Given as goal
 abbrev pub invariant-loop-place : goal.invariant-loop-place
 invariant-loop-place l =
     Whole l.values l.levels
-    × Like (rule_pass (reduct (map (rule_at l.t) (drop l.place-index l.places)) (true_atoms l.tb.atoms (valued l.candidate))) (work_of l.level (cells_at l.values l.levels) l.changed false))
-    (pass (reduct (map (rule_at l.t) l.places) (true_atoms l.tb.atoms (valued l.candidate))) 0 (work_of l.level (cells_at l.initial.values l.initial.levels) false false))
+    × Like (rule_pass (reduct (map (rule_at l.t.words.now) (drop l.place-index l.places)) (true_atoms l.t.places.atoms (valued l.candidate))) (work_of l.level (cells_at l.values l.levels) l.changed false))
+    (pass (reduct (map (rule_at l.t.words.now) l.places) (true_atoms l.t.places.atoms (valued l.candidate))) 0 (work_of l.level (cells_at l.initial.values l.initial.levels) false false))

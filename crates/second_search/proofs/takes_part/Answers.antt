@@ -16,21 +16,21 @@ use Rattle.second_search.proofs.takes_part.Goals as goal
 pub returns-then-eq : goal.returns-then-eq
 unfolding rule_at
 returns-then-eq c =
-    let t = c.args.t.now in
+    let t = c.args.t.now.words.now in
     let a = valued c.args.candidate.now in
     let positive : c.part-positive.result.now ≡ part_at t (pos_at t c.args.at) = c.part-positive.ensures ∙ ap (part_at t) c.past-i.ensures in
     let told : is_conflict (asks a (atom_lits true (part_at t (pos_at t c.args.at)))) ≡ c.eq.result =
     sym (conflict_by c.eq.result c.atoms_ask-asked.result (λ e. search rules) (λ e f. search rules)
     ∙ ap is_conflict (c.atoms_ask-asked.ensures ∙ ap (λ (l : List ℤ). asks a (atom_lits true l)) positive)) in
-    c.rest_true.ensures ∙ body_rest c.args.tb.atoms a c.requires.2 (rule_at t c.args.at) (rule_in_lem t c.args.tb c.requires.0 c.args.at c.requires.1) (told ∙ c.if-eq.true)
+    c.rest_true.ensures ∙ body_rest c.args.t.now.places.atoms a c.requires.1 (rule_at t c.args.at) (rule_in_lem t c.args.t.now.places c.args.t.now.laid c.args.at c.requires.0) (told ∙ c.if-eq.true)
 
 pub returns-else-eq : goal.returns-else-eq
 unfolding rule_at
 returns-else-eq c =
-    let t = c.args.t.now in
+    let t = c.args.t.now.words.now in
     let a = valued c.args.candidate.now in
     let positive : c.part-positive.result.now ≡ part_at t (pos_at t c.args.at) = c.part-positive.ensures ∙ ap (part_at t) c.past-i.ensures in
     let told : is_conflict (asks a (atom_lits true (part_at t (pos_at t c.args.at)))) ≡ c.eq.result =
     sym (conflict_by c.eq.result c.atoms_ask-asked.result (λ e. search rules) (λ e f. search rules)
     ∙ ap is_conflict (c.atoms_ask-asked.ensures ∙ ap (λ (l : List ℤ). asks a (atom_lits true l)) positive)) in
-    c.if-eq.false ∙ sym (body_not c.args.tb.atoms a c.requires.2 (rule_at t c.args.at) (rule_in_lem t c.args.tb c.requires.0 c.args.at c.requires.1) (told ∙ c.if-eq.false))
+    c.if-eq.false ∙ sym (body_not c.args.t.now.places.atoms a c.requires.1 (rule_at t c.args.at) (rule_in_lem t c.args.t.now.places c.args.t.now.laid c.args.at c.requires.0) (told ∙ c.if-eq.false))

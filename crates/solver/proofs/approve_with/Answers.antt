@@ -16,25 +16,29 @@ use Rattle.solver.specs.Plans.{bad_from, passes_by, checked_by}
 use Rattle.solver.proofs.Approved.{approving_refused, approving_accepted}
 use Rattle.solver.proofs.approve_with.Goals as goal
 
+pub invariant_of-t : goal.invariant_of-t
+invariant_of-t c =
+    record { laid = (judged_taken c.args.words.now (Plan (length c.args.plan.now)) (Ok c.in_ok-places.places) c.in_ok-places.places c.in_ok-places.ensures.0 refl).2.laid }
+
 pub check-requires : goal.check-requires
 check-requires c =
     let a = c.args in
-    let tb = c.in_ok-tb.tb in
-    let x = judged_taken a.words.now (Plan (length a.plan.now)) (Ok tb) tb c.in_ok-tb.ensures.0 refl in
-    (x.2.laid, c.in_ok-tb.ensures.1 tb refl, plan_wide _ x.1.buffer)
+    let tb = c.in_ok-places.places in
+    let x = judged_taken a.words.now (Plan (length a.plan.now)) (Ok tb) tb c.in_ok-places.ensures.0 refl in
+    (c.in_ok-places.ensures.1 tb refl, plan_wide _ x.1.buffer)
 
-pub returns-in_err-tb : goal.returns-in_err-tb
-returns-in_err-tb c =
+pub returns-in_err-places : goal.returns-in_err-places
+returns-in_err-places c =
     let a = c.args in
-    let f = c.in_err-tb.field-0.0 in
-    approving_refused a.cycles a.words.now a.plan.now c.from_residual.result f (before (judged_refused a.words.now (Plan (length a.plan.now)) (Err f) f c.in_err-tb.ensures.0 refl))
+    let f = c.in_err-places.field-0.0 in
+    approving_refused a.cycles a.words.now a.plan.now c.from_residual.result f (before (judged_refused a.words.now (Plan (length a.plan.now)) (Err f) f c.in_err-places.ensures.0 refl))
     (ends _ _ c.from_residual.ensures.1)
 
 pub returns : goal.returns
 returns c =
     let a = c.args in
-    let tb = c.in_ok-tb.tb in
-    let x = judged_taken a.words.now (Plan (length a.plan.now)) (Ok tb) tb c.in_ok-tb.ensures.0 refl in
+    let tb = c.in_ok-places.places in
+    let x = judged_taken a.words.now (Plan (length a.plan.now)) (Ok tb) tb c.in_ok-places.ensures.0 refl in
     let d = x.0 in
     let p = x.2 in
     approving_accepted a.cycles a.words.now a.plan.now d x.1 (accepted_atoms a.words.now d x.1.holds) c.check.result

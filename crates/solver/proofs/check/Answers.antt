@@ -23,15 +23,15 @@ no_model o m f a b = sym (ap (λ (x : Option ℕ). checked_by x m f) a ∙ ap (�
 pub returns-then-model : goal.returns-then-model
 returns-then-model c =
     let a = c.args in
-    let P = program_of a.words.now a.tb in
+    let P = program_of a.t.now.words.now a.t.now.places in
     let plan = c.values_of-values.ensures.says in
     let b = c.in_default.ensures in
-    ap Ok (c.passes.ensures ∙ ap (passes_by a.cycles P a.tb.atoms) plan) ∙ passed _ _ _ (cc) (ap (model P) (sym plan) ∙ sym c.is_model-model.ensures ∙ c.if-model.true)
+    ap Ok (c.passes.ensures ∙ ap (passes_by a.cycles P a.t.now.places.atoms) plan) ∙ passed _ _ _ (cc) (ap (model P) (sym plan) ∙ sym c.is_model-model.ensures ∙ c.if-model.true)
 
 pub returns-else-model : goal.returns-else-model
 returns-else-model c =
     let a = c.args in
-    let P = program_of a.words.now a.tb in
+    let P = program_of a.t.now.words.now a.t.now.places in
     let plan = c.values_of-values.ensures.says in
     let b = c.in_default.ensures in
     ap Ok c.if-model.false ∙ no_model _ _ _ (cc) (ap (model P) (sym plan) ∙ sym c.is_model-model.ensures ∙ c.if-model.false)

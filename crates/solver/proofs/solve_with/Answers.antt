@@ -24,26 +24,23 @@ use Rattle.solver.proofs.Entry.{solving_refused, solving_accepted}
 use Rattle.solver.proofs.Explained.{answer_ended, whys_written_by, explains_refused, explains_accepted}
 use Rattle.solver.proofs.solve_with.Goals as goal
 
+pub invariant_of-t : goal.invariant_of-t
+invariant_of-t c = record { laid = (judged_taken c.args.words.now (Plan (length c.args.plan.now)) (Ok c.in-Ok.places) c.in-Ok.places c.in-Ok.ensures.0 refl).2.laid }
+
 pub search-found-requires : goal.search-found-requires
-search-found-requires c =
-    let a = c.args in
-    let j = c.in-Ok.ensures in
-    let taken = judged_taken a.words.now (Plan (length a.plan.now)) (Ok c.in-Ok.tb) c.in-Ok.tb j.0 refl in
-    (taken.2.laid, (j.1 c.in-Ok.tb refl).listed)
+search-found-requires c = (c.in-Ok.ensures.1 c.in-Ok.places refl).listed
 
 pub report-solved-requires : goal.report-solved-requires
 report-solved-requires c =
     let a = c.args in
-    let taken = judged_taken a.words.now (Plan (length a.plan.now)) (Ok c.in-Ok.tb) c.in-Ok.tb c.in-Ok.ensures.0 refl in
+    let taken = judged_taken a.words.now (Plan (length a.plan.now)) (Ok c.in-Ok.places) c.in-Ok.places c.in-Ok.ensures.0 refl in
     let f = taken.2.laid.few_atoms in
     let w = plan_wide _ taken.1.buffer in
     (f, omega arith)
 
 pub whys_by-whys-requires : goal.whys_by-whys-requires
 whys_by-whys-requires c =
-    let a = c.args in
-    let taken = judged_taken a.words.now (Plan (length a.plan.now)) (Ok c.in-Ok.tb) c.in-Ok.tb c.in-Ok.ensures.0 refl in
-    (taken.2.laid, λ h. c.search-found.ensures.2 (answer_ended c.in-Ok.tb.atoms c.search-found.result c.report-solved.result c.report-solved.ensures.0 h))
+    (λ h. c.search-found.ensures.2 (answer_ended c.in-Ok.places.atoms c.search-found.result c.report-solved.result c.report-solved.ensures.0 h))
 
 pub returns-in-Err : goal.returns-in-Err
 returns-in-Err c =
@@ -58,7 +55,7 @@ pub returns-in-Ok : goal.returns-in-Ok
 returns-in-Ok c =
     let a = c.args in
     let j = c.in-Ok.ensures in
-    let tb = c.in-Ok.tb in
+    let tb = c.in-Ok.places in
     let x = judged_taken a.words.now (Plan (length a.plan.now)) (Ok tb) tb j.0 refl in
     let d = x.0 in
     let p = x.2 in

@@ -16,29 +16,29 @@ use Rattle.support.proofs.blame.Goals as goal
 
 pub loop-at-init : goal.loop-at-init
 loop-at-init c =
-    let listed : let a = c.args in c.list-l.result.now ≡ with_head a.t.now a.p (places_of a.t.now a.tb) = c.list-l.ensures ∙ (c.requires.1.each c.args.p c.requires.2 c.requires.3).same in
+    let listed : let a = c.args in c.list-l.result.now ≡ with_head a.t.now.words.now a.p (places_of a.t.now.words.now a.t.now.places) = c.list-l.ensures ∙ (c.requires.0.each c.args.p c.requires.1 c.requires.2).same in
     let a = c.args in
-    let t = a.t.now in
+    let t = a.t.now.words.now in
     let x = witness_of (valued a.values.now) a.p in
     let y = reason_of (valued a.values.now) (rows a.reasons.now) in
     ap (λ (B : Levels). union B (blame_among x y a.p t c.list-l.result.now)) c.empty-acc.ensures
-    ∙ ap (blame_among x y a.p t) (listed) ∙ blame_all x y a.p t a.tb ∙ sym (blame_is (valued a.values.now) (rows a.reasons.now) a.p (program_of t a.tb))
+    ∙ ap (blame_among x y a.p t) (listed) ∙ blame_all x y a.p t a.t.now.places ∙ sym (blame_is (valued a.values.now) (rows a.reasons.now) a.p (program_of t a.t.now.places))
 
 pub blamed-more-requires : goal.blamed-more-requires
 blamed-more-requires c =
-    let listed : let a = c.args in c.list-l.result.now ≡ with_head a.t.now a.p (places_of a.t.now a.tb) = c.list-l.ensures ∙ (c.requires.1.each c.args.p c.requires.2 c.requires.3).same in
-    let fit : let a = c.args in Candidates a.t.now a.tb a.p c.list-l.result.now =
+    let listed : let a = c.args in c.list-l.result.now ≡ with_head a.t.now.words.now a.p (places_of a.t.now.words.now a.t.now.places) = c.list-l.ensures ∙ (c.requires.0.each c.args.p c.requires.1 c.requires.2).same in
+    let fit : let a = c.args in Candidates a.t.now.words.now a.t.now.places a.p c.list-l.result.now =
     let a = c.args in
-    subst (Candidates a.t.now a.tb a.p) (sym (listed)) (candidates a.t.now a.tb c.requires.0 a.p) in
+    subst (Candidates a.t.now.words.now a.t.now.places a.p) (sym (listed)) (candidates a.t.now.words.now a.t.now.places c.args.t.now.laid a.p) in
     let h : c.loop-at.at-index < length c.list-l.result.now = omega arith in
     let f = fit in
     let at : c.from.result ≡ get_or c.list-l.result.now c.loop-at.at-index 0 = search rules in
-    rw at (c.requires.0, f.lie c.loop-at.at-index h, f.headed c.loop-at.at-index h)
+    rw at (f.lie c.loop-at.at-index h, f.headed c.loop-at.at-index h)
 
 pub loop-at-preserved : goal.loop-at-preserved
 loop-at-preserved c =
     let a = c.args in
-    let t = a.t.now in
+    let t = a.t.now.words.now in
     let i = c.loop-at.at-index in
     let m = c.list-l.result.now in
     let x = witness_of (valued a.values.now) a.p in
@@ -51,4 +51,4 @@ loop-at-preserved c =
 pub returns : goal.returns
 returns c =
     let a = c.args in
-    sym (blame_end (witness_of (valued a.values.now) a.p) (reason_of (valued a.values.now) (rows a.reasons.now)) a.p a.t.now c.list-l.result.now c.loop-at.at-index (row c.loop-at.acc) (omega arith)) ∙ c.loop-at.invariant
+    sym (blame_end (witness_of (valued a.values.now) a.p) (reason_of (valued a.values.now) (rows a.reasons.now)) a.p a.t.now.words.now c.list-l.result.now c.loop-at.at-index (row c.loop-at.acc) (omega arith)) ∙ c.loop-at.invariant

@@ -12,4 +12,4 @@ use Rattle.support.proofs.blame.Given as goal
 
 abbrev pub invariant-loop-at : goal.invariant-loop-at
 invariant-loop-at l =
-    union (row l.acc) (blame_among (witness_of (valued l.values) l.p) (reason_of (valued l.values) (rows l.reasons)) l.p l.t (drop l.at-index l.l)) ≡ blame_of (valued l.values) (rows l.reasons) l.p (program_of l.t l.tb)
+    union (row l.acc) (blame_among (witness_of (valued l.values) l.p) (reason_of (valued l.values) (rows l.reasons)) l.p l.t.words.now (drop l.at-index l.l)) ≡ blame_of (valued l.values) (rows l.reasons) l.p (program_of l.t.words.now l.t.places)

@@ -17,8 +17,8 @@ position-first-requires-clause-callable c =
     let a = c.args in
     serves_from_places (YieldsList-from_slice a.l.now (cc)) (λ x q k. search rules)
     (λ x k h e.
-    let laid : Laid a.t.now a.tb = c.requires.0 in
-    let r : RuleLies a.tb.atoms a.tb.aggregates a.t.now x.now × (has a.p (rule_at a.t.now x.now).head ≡ true) = candidate_at a.t.now a.tb a.p a.l.now c.requires.1 k x.now h e in
+    let laid : Laid a.t.now.words.now a.t.now.places = c.args.t.now.laid in
+    let r : RuleLies a.t.now.places.atoms a.t.now.places.aggregates a.t.now.words.now x.now × (has a.p (rule_at a.t.now.words.now x.now).head ≡ true) = candidate_at a.t.now.words.now a.t.now.places a.p a.l.now c.requires k x.now h e in
     search rules)
 
 pub returns : goal.returns
@@ -26,6 +26,6 @@ returns c =
     let a = c.args in
     let f = supports_of (valued a.values.now) a.p in
     c.unwrap_or.ensures
-    ∙ skipped_by f a.t.now a.l.now c.position-first.result
-    (IsFirst-from_position _ _ _ (λ (i : ℕ). f (rule_at a.t.now i) ≡ true) (λ (i : ℕ). f (rule_at a.t.now i) ≡ false) c.position-first.ensures.ran (YieldsList-from_slice a.l.now (cc))
+    ∙ skipped_by f a.t.now.words.now a.l.now c.position-first.result
+    (IsFirst-from_position _ _ _ (λ (i : ℕ). f (rule_at a.t.now.words.now i) ≡ true) (λ (i : ℕ). f (rule_at a.t.now.words.now i) ≡ false) c.position-first.ensures.ran (YieldsList-from_slice a.l.now (cc))
     (λ x q k. search rules) (λ x q k. search rules))

@@ -14,5 +14,5 @@ returns c =
     let x = valued a.values.now in
     none_nobody c.is_none.result c.witness_of.result c.is_none.ensures
     ∙ ap is_nobody c.witness_of.ensures
-    ∙ sym (ap (λ (b : Bool). b && is_nobody (witness_at x a.t.now a.p a.at)) (ap (has a.p) (sym (rule_head a.tb.atoms a.t.now a.at x)) ∙ c.requires.2))
-    ∙ sym (supports_at a.tb.atoms a.t.now a.at x (rule_in_lem a.t.now a.tb c.requires.0 a.at c.requires.1) a.p)
+    ∙ sym (ap (λ (b : Bool). b && is_nobody (witness_at x a.t.now.words.now a.p a.at)) (ap (has a.p) (sym (rule_head a.t.now.places.atoms a.t.now.words.now a.at x)) ∙ c.requires.1))
+    ∙ sym (supports_at a.t.now.places.atoms a.t.now.words.now a.at x (rule_in_lem a.t.now.words.now a.t.now.places c.args.t.now.laid a.at c.requires.0) a.p)

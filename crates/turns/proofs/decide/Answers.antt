@@ -9,6 +9,6 @@ use Rattle.turns.proofs.decide.Goals as goal
 
 pub test-tested-requires : goal.test-tested-requires
 test-tested-requires c =
-    let atom : Option ℕ = lowest (valued c.args.values.now) c.args.tb.atoms in
+    let atom : Option ℕ = lowest (valued c.args.values.now) c.args.t.now.places.atoms in
     let whole : atom ≡ none = sym c.in-None.ensures in
-    (c.requires.0, c.requires.1, lowest_none (valued c.args.values.now) c.args.tb.atoms whole)
+    (c.requires.0, lowest_none (valued c.args.values.now) c.args.t.now.places.atoms whole)

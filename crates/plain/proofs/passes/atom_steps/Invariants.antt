@@ -12,4 +12,4 @@ use Rattle.plain.proofs.passes.atom_steps.Given as goal
 abbrev pub invariant-loop-p : goal.invariant-loop-p
 invariant-loop-p l =
     (l.side.conflict ≡ false)
-    × Like (atom_pass (program_of l.t l.tb) (suc l.tb.atoms - l.p) l.p (work_of l.side)) (atom_pass (program_of l.t l.tb) l.tb.atoms 1 (work_of l.initial.side)) × (l.side.choices ≡ l.initial.side.choices)
+    × Like (atom_pass (program_of l.t.words.now l.t.places) (suc l.t.places.atoms - l.p) l.p (work_of l.side)) (atom_pass (program_of l.t.words.now l.t.places) l.t.places.atoms 1 (work_of l.initial.side)) × (l.side.choices ≡ l.initial.side.choices)

@@ -22,7 +22,7 @@ pub returns : goal.returns
 returns c =
     let a = c.args in
     let w = work_of c.loop-p.side in
-    let r = rule_at a.t.now a.at in
+    let r = rule_at a.t.now.words.now a.at in
     record {
       like = subst (λ (u : Work). Like u (step_e (some r) no_levels (work_of a.side))) (forced_nothing r no_levels w (sym c.forced.ensures ∙ c.in_default.is)) c.loop-p.invariant.0;
       kept = c.loop-p.invariant.1;
@@ -30,22 +30,22 @@ returns c =
 
 pub set-side-requires : goal.set-side-requires
 set-side-requires c =
-    let aim : In c.args.tb.atoms c.in-Some.p × (valued c.loop-p.side.values c.in-Some.p ≡ undefined) =
+    let aim : In c.args.t.now.places.atoms c.in-Some.p × (valued c.loop-p.side.values c.in-Some.p ≡ undefined) =
     let a = c.args in
     let p = c.requires in
-    forced_open (rule_at a.t.now a.at) a.tb.atoms (rule_in_lem a.t.now a.tb p.0 a.at p.1) (valued c.loop-p.side.values) c.in-Some.p c.in-Some.v
+    forced_open (rule_at a.t.now.words.now a.at) a.t.now.places.atoms (rule_in_lem a.t.now.words.now a.t.now.places c.args.t.now.laid a.at p) (valued c.loop-p.side.values) c.in-Some.p c.in-Some.v
     (sym c.forced.ensures ∙ c.in-Some.is) in
     let h = aim.0 in
-    (h.0, omega (arith, h.1, c.requires.0.few_atoms))
+    (h.0, omega (arith, h.1, c.args.t.now.laid.few_atoms))
 
 pub loop-p-smaller : goal.loop-p-smaller
 loop-p-smaller c =
-    let aim : In c.args.tb.atoms c.in-Some.p × (valued c.loop-p.side.values c.in-Some.p ≡ undefined) =
+    let aim : In c.args.t.now.places.atoms c.in-Some.p × (valued c.loop-p.side.values c.in-Some.p ≡ undefined) =
     let a = c.args in
     let p = c.requires in
-    forced_open (rule_at a.t.now a.at) a.tb.atoms (rule_in_lem a.t.now a.tb p.0 a.at p.1) (valued c.loop-p.side.values) c.in-Some.p c.in-Some.v
+    forced_open (rule_at a.t.now.words.now a.at) a.t.now.places.atoms (rule_in_lem a.t.now.words.now a.t.now.places c.args.t.now.laid a.at p) (valued c.loop-p.side.values) c.in-Some.p c.in-Some.v
     (sym c.forced.ensures ∙ c.in-Some.is) in
-    let N = c.args.tb.atoms in
+    let N = c.args.t.now.places.atoms in
     let h = aim in
     let q = c.in-Some.p in
     let v = c.in-Some.v in
@@ -57,7 +57,7 @@ loop-p-smaller c =
 pub loop-p-preserved : goal.loop-p-preserved
 loop-p-preserved c =
     let a = c.args in
-    let r = rule_at a.t.now a.at in
+    let r = rule_at a.t.now.words.now a.at in
     let w = work_of c.loop-p.side in
     let q = c.in-Some.p in
     let v = c.in-Some.v in (

@@ -11,5 +11,5 @@ use Rattle.plain.proofs.passes.rule_steps.Given as goal
 
 abbrev pub invariant-loop-rule : goal.invariant-loop-rule
 invariant-loop-rule l =
-    RulesLie l.tb.atoms l.tb.aggregates l.t l.at (l.tb.rules - l._rule) × (l.side.conflict ≡ false)
-    × Like (rule_pass (rules_from l.t l.at (l.tb.rules - l._rule)) (work_of l.side)) (rule_pass (program_of l.t l.tb) (work_of l.initial.side)) × (l.side.choices ≡ l.initial.side.choices)
+    RulesLie l.t.places.atoms l.t.places.aggregates l.t.words.now l.at (l.t.places.rules - l._rule) × (l.side.conflict ≡ false)
+    × Like (rule_pass (rules_from l.t.words.now l.at (l.t.places.rules - l._rule)) (work_of l.side)) (rule_pass (program_of l.t.words.now l.t.places) (work_of l.initial.side)) × (l.side.choices ≡ l.initial.side.choices)

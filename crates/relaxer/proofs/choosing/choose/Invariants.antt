@@ -13,6 +13,6 @@ use Rattle.relaxer.proofs.choosing.choose.Given as goal
 
 abbrev pub invariant-loop-i : goal.invariant-loop-i
 invariant-loop-i l =
-    (bounds ≤ l.end) × (l.end ≤ bounds + l.i) × (length l.lists ≡ size) × (take bounds l.lists ≡ take bounds l.initial.lists) × (drop (bounds + l.fn.tb.rules) l.lists ≡ drop (bounds + l.fn.tb.rules) l.initial.lists)
-    × RulesLie l.fn.tb.atoms l.fn.tb.aggregates l.t l.at (l.fn.tb.rules - l.i)
-    × (part l.lists bounds (l.end - bounds) ++ kept_from (row l.kept) l.t l.at (suc l.i) (l.fn.tb.rules - l.i) ≡ kept_places (row l.kept) l.t l.fn.tb)
+    (bounds ≤ l.end) × (l.end ≤ bounds + l.i) × (length l.lists ≡ size) × (take bounds l.lists ≡ take bounds l.initial.lists) × (drop (bounds + l.fn.t.places.rules) l.lists ≡ drop (bounds + l.fn.t.places.rules) l.initial.lists)
+    × RulesLie l.fn.t.places.atoms l.fn.t.places.aggregates l.t.words.now l.at (l.fn.t.places.rules - l.i)
+    × (part l.lists bounds (l.end - bounds) ++ kept_from (row l.kept) l.t.words.now l.at (suc l.i) (l.fn.t.places.rules - l.i) ≡ kept_places (row l.kept) l.t.words.now l.fn.t.places)
