@@ -5,7 +5,6 @@
 ghost use Rattle.std.specs.Prelude.{◌≡◌, true, map, ◌++◌, [], ◌∷◌, ◌+◌, ◌≤◌, ◌<◌, ◌*◌, length};
 ghost use Rattle.meaning.specs.Lists.{keep};
 ghost use Rattle.meaning.specs.declared.Comparison.TheVariants.{Greater};
-ghost use Rattle.layout.specs.Accepted.{program_in, rule_in, RuleIn};
 ghost use Rattle.layout.specs.Layout.{AggregateLies, aggregate_at, pairs};
 ghost use Rattle.aspif.specs.Writing.{with, barred, stating, bodies_of, defining_all, used};
 ghost use Rattle.bytes_out.specs.Putting.{Put};

@@ -4,7 +4,7 @@
 ghost use Rattle.std.specs.Prelude.{◌≡◌, not, map, ◌++◌, [], ◌∷◌, ◌+◌, ◌≤◌, ◌<◌, pos, length, get_or};
 ghost use Rattle.std.specs.Bool.{beq};
 ghost use Rattle.layout.specs.Layout as L;
-ghost use Rattle.layout.specs.Accepted.{program_in, rule_in, RuleIn};
+ghost use Rattle.layout.specs.Accepted.{RuleIn};
 ghost use Rattle.layout.specs.Layout.{Members, part_at, past_at, aggs_at, nat_at, function_by, comparison_by};
 ghost use Rattle.aspif.specs.Writing as W;
 ghost use Rattle.aspif.specs.Writing.{with, stated_literal, stated};

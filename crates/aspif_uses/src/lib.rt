@@ -3,7 +3,6 @@
 #![tactic(auto)]
 
 ghost use Rattle.std.specs.Prelude.{◌≡◌, suc, ◌≤◌, ◌<◌, replicate};
-ghost use Rattle.layout.specs.Accepted.{program_in, rule_in, RuleIn};
 ghost use Rattle.layout.specs.Layout.{Members};
 ghost use Rattle.aspif_parts.specs.Held.{numbered_from, held_by};
 ghost use Rattle.aspif_parts.specs.Uses.{mark_all, mark_rules, atom_by, next_by, numbered_by, NewAtoms};

@@ -5,7 +5,6 @@
 #![tactic(auto)]
 
 ghost use Rattle.std.specs.Prelude.{◌≤◌};
-ghost use Rattle.layout.specs.Accepted.{program_in, rule_in, RuleIn};
 ghost use Rattle.aspif.specs.Writing.{written};
 ghost use Rattle.aspif.specs.Lines.{text_of};
 ghost use Rattle.bytes_out.specs.Putting.{Put};

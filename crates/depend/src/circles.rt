@@ -1,8 +1,7 @@
 // Which atoms reach each other: for each atom a name of its circle. Atoms with the same name are those that reach each other. Each circle is found once,
 // by a visit from its lowest atom and a walk back; atoms that lie on no cycle keep a name of their own. Meaning: `specs/Circles.antt`.
 ghost use Rattle.std.specs.Prelude.{◌≡◌, cond, ◌+◌, ◌-◌, ◌≤◌, ◌<◌, length, set};
-ghost use Rattle.layout.specs.Accepted.{program_in, rule_in, RuleIn};
-ghost use Rattle.layout.specs.Layout.{program_of};
+ghost use Rattle.layout.specs.Accepted.{program_in};
 ghost use Rattle.heads.specs.Heads.{Listed};
 ghost use Rattle.levels.specs.View.{row};
 ghost use Rattle.reach.specs.Arcs.{arcs_of};

@@ -4,7 +4,7 @@
 ghost use Rattle.std.specs.Prelude.{◌≡◌, ◌&&◌, map, ◌≤◌, length};
 ghost use Rattle.meaning.specs.Lists.{any};
 ghost use Rattle.layout.specs.Accepted.{program_in, rule_in, RuleIn};
-ghost use Rattle.layout.specs.Layout.{past_at, pos_at, aggs_at, atoms, Members, pairs, literal_of, rule_at, RuleLies, program_of};
+ghost use Rattle.layout.specs.Layout.{past_at, pos_at, aggs_at, atoms, Members, pairs, literal_of, rule_at};
 ghost use Rattle.reach.specs.Arcs.{Elements};
 ghost use Rattle.depend.specs.Circles.{alike};
 ghost use Rattle.depend.specs.Cycles.{full, wide, makes_arcs, adds_arcs, may_cross, may_return, may_close, crossing, crossed, returning, returned, closes, lowest};

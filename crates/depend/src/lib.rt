@@ -7,8 +7,7 @@
 
 ghost use Rattle.std.specs.Prelude.{◌≡◌, suc};
 ghost use Rattle.meaning.specs.Cycles.{aggregate_cycle};
-ghost use Rattle.layout.specs.Accepted.{program_in, rule_in, RuleIn};
-ghost use Rattle.layout.specs.Layout.{program_of};
+ghost use Rattle.layout.specs.Accepted.{program_in};
 ghost use Rattle.heads.specs.Heads.{Listed};
 ghost use Rattle.depend.specs.Cycles.{lowest, ninth, cycle_test, head_cycle_by, cycle_by};
 

@@ -14,7 +14,7 @@ ghost use Rattle.meaning.specs.Lists.{all};
 ghost use Rattle.interpretation.specs.State.{true_atoms, AllDefined};
 ghost use Rattle.interpretation.specs.View.{valued};
 ghost use Rattle.layout.specs.Accepted.{program_in, rule_in, RuleIn};
-ghost use Rattle.layout.specs.Layout.{Members, atoms, pos_at, rule_at};
+ghost use Rattle.layout.specs.Layout.{Members, atoms, pos_at};
 ghost use Rattle.foundation.specs.Walk.{could_of, Stands};
 ghost use Rattle.rounds.specs.Rounds.{no_whys, why_of, whys_in, Recorded};
 ghost use Rattle.rounds.specs.Marks.{earlier, marks_after};

@@ -13,7 +13,7 @@ ghost use Rattle.meaning.specs.Foundedness.{atoms_to, founded};
 ghost use Rattle.interpretation.specs.State.{truth_of, true_atoms, AllDefined};
 ghost use Rattle.interpretation.specs.View.{valued};
 ghost use Rattle.layout.specs.Accepted.{program_in, rule_in, RuleIn};
-ghost use Rattle.layout.specs.Layout.{Members, Listed, atoms, rule_at};
+ghost use Rattle.layout.specs.Layout.{Members, Listed, atoms};
 ghost use Rattle.foundation.specs.Walk.{marked, fits, sole_of, rest_true, could_of, place_of, positives, candidates_from, Stands, Fit, walk_marks, walk_left, covers, MarksAdded};
 
 use interpretation::Value;

@@ -7,7 +7,6 @@
 
 ghost use Rattle.std.specs.Prelude.{◌≡◌, List, [], ℕ, ◌+◌, ◌*◌, ◌≤◌, ◌<◌, length, get_or, take, drop};
 ghost use Rattle.meaning.specs.Lists.{has};
-ghost use Rattle.layout.specs.Accepted.{program_in, rule_in, RuleIn};
 ghost use Rattle.layout.specs.Layout.{atoms, Members};
 ghost use Rattle.heads.specs.Heads.{bounds, size, places_of, list_at, Whole, Counted, Counts, end_of, Ended, Regions, Room, Put};
 

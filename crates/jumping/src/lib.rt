@@ -5,7 +5,6 @@
 // the loop of `search_by`, so that the reasons exist once.
 #![tactic(auto)]
 
-ghost use Rattle.layout.specs.Accepted.{program_in, rule_in, RuleIn};
 ghost use Rattle.heads.specs.Heads.{Listed, taking};
 ghost use Rattle.smaller.specs.Cyclic.{base_by};
 ghost use Rattle.jumping.specs.Jumping.{Ready, Searches, Solves};

@@ -5,7 +5,6 @@
 ghost use Rattle.std.specs.Prelude.{◌≡◌, ◌+◌, ◌*◌, ◌≤◌, ◌<◌, ◌/◌, length};
 ghost use Rattle.interpretation.specs.State.{unset, true_atoms};
 ghost use Rattle.interpretation.specs.View.{view, valued, choices};
-ghost use Rattle.layout.specs.Accepted.{program_in, rule_in, RuleIn};
 ghost use Rattle.heads.specs.Heads.{Listed, taking};
 ghost use Rattle.levels.specs.Levels.{up_to};
 ghost use Rattle.smaller.specs.Cyclic.{base_by};

@@ -7,7 +7,6 @@ ghost use Rattle.std.specs.Int.Signed.{non_neg};
 ghost use Rattle.levels.specs.Levels.{union};
 ghost use Rattle.levels.specs.View.{row, rows};
 ghost use Rattle.interpretation.specs.View.{valued, cell_by, cell_value};
-ghost use Rattle.layout.specs.Accepted.{program_in, rule_in, RuleIn};
 ghost use Rattle.layout.specs.Layout.{Members, atoms, literal_of};
 ghost use Rattle.valuing.specs.Values.{says_true, signed, agg_lit, literal_value};
 ghost use Rattle.valuing.specs.Reasons.{reason_at, reason_of, reasons_of};

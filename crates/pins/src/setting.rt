@@ -1,8 +1,6 @@
 // The search of a session: 01's, from the start that the pins make. "Pins are set before the first pass, in order, with empty reasons." A pin that `pin` would refuse
 // in a new session given the pins in this order is passed over; a session that `open` made holds none.
 ghost use Rattle.std.specs.Prelude.{◌≡◌, Bool, ◌≤◌, ◌<◌, length};
-ghost use Rattle.layout.specs.Accepted.{program_in, rule_in, RuleIn};
-ghost use Rattle.layout.specs.Layout.{Laid};
 ghost use Rattle.heads.specs.Heads.{Listed, taking};
 ghost use Rattle.interpretation.specs.State.{set_at};
 ghost use Rattle.interpretation.specs.View.{view, valued};

@@ -2,7 +2,6 @@
 // each calling the other while fewer atoms stay undefined. Propagation: `passes.rt`. Meaning: `specs/`.
 #![tactic(auto)]
 
-ghost use Rattle.layout.specs.Accepted.{program_in, rule_in, RuleIn};
 ghost use Rattle.std.specs.Prelude.{◌≡◌, false};
 ghost use Rattle.plain.specs.Promise.{plain_counts, Plainly};
 ghost use Rattle.plain.specs.Plain.{Ready, Sided, Chosen, Testable, Tests};

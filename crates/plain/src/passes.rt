@@ -4,7 +4,6 @@ ghost use Rattle.std.specs.Prelude.{◌≡◌, false, ◌≤◌, suc};
 ghost use Rattle.std.proofs.Math.Option.{some};
 ghost use Rattle.levels.specs.Levels.{no_levels};
 ghost use Rattle.layout.specs.Accepted.{program_in, rule_in, RuleIn};
-ghost use Rattle.layout.specs.Layout.{Laid, RuleLies, rule_at, program_of};
 ghost use Rattle.heads.specs.Heads.{Listed};
 ghost use Rattle.steps.specs.Steps.{set, step_e, rule_pass, atom_pass, passes};
 ghost use Rattle.plain.specs.Passes.{work_of, Like, Comes};

@@ -7,7 +7,7 @@ ghost use Rattle.std.specs.Prelude.{◌≡◌, ◌≤◌};
 ghost use Rattle.levels.specs.Levels.{union};
 ghost use Rattle.levels.specs.View.{row, rows};
 ghost use Rattle.interpretation.specs.View.{valued};
-ghost use Rattle.layout.specs.Accepted.{program_in, rule_in, RuleIn};
+ghost use Rattle.layout.specs.Accepted.{program_in};
 ghost use Rattle.heads.specs.Heads.{Listed};
 ghost use Rattle.support.specs.Asking.{blame_of};
 

@@ -2,7 +2,7 @@
 // in `levels`. Meaning: `specs/Arcs.antt`.
 ghost use Rattle.std.specs.Prelude.{◌≡◌, ◌-◌, ◌≤◌};
 ghost use Rattle.layout.specs.Accepted.{program_in, rule_in, RuleIn};
-ghost use Rattle.layout.specs.Layout.{pairs_at, start_from, Members, rule_at, RuleLies, program_of};
+ghost use Rattle.layout.specs.Layout.{pairs_at, start_from, Members};
 ghost use Rattle.heads.specs.Heads.{Listed};
 ghost use Rattle.levels.specs.Levels.{union};
 ghost use Rattle.levels.specs.View.{row};

@@ -2,8 +2,7 @@
 // walk adds nothing, from its last atom to its first, since an atom that was found late is more often near an arc back. Meaning: `specs/Visits.antt`.
 ghost use Rattle.std.specs.Prelude.{◌≡◌, ◌↔◌, ℕ, ◌≤◌, ◌<◌, length, get_or};
 ghost use Rattle.meaning.specs.Lists.{Is};
-ghost use Rattle.layout.specs.Accepted.{program_in, rule_in, RuleIn};
-ghost use Rattle.layout.specs.Layout.{program_of};
+ghost use Rattle.layout.specs.Accepted.{program_in};
 ghost use Rattle.heads.specs.Heads.{Listed};
 ghost use Rattle.levels.specs.View.{row};
 ghost use Rattle.reach.specs.Arcs.{arcs_of};

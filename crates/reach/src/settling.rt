@@ -1,8 +1,7 @@
 // Atoms that surely lie on no cycle: those whose arcs all go to atoms settled before, and to none else. Walks over all atoms find most of them at once where there is no
 // cycle; how many walks are made is bounded, since what is left unsettled is visited. Meaning: `specs/Visits.antt`.
 ghost use Rattle.std.specs.Prelude.{◌≡◌, true, ℕ, ◌≤◌, ◌<◌, length, get_or};
-ghost use Rattle.layout.specs.Accepted.{program_in, rule_in, RuleIn};
-ghost use Rattle.layout.specs.Layout.{program_of};
+ghost use Rattle.layout.specs.Accepted.{program_in};
 ghost use Rattle.heads.specs.Heads.{Listed};
 ghost use Rattle.levels.specs.Levels.{up_to};
 ghost use Rattle.levels.specs.View.{row};

@@ -2,8 +2,8 @@
 // the set of all arcs, and serves as a short cut: "yes" for atoms of the set is sure, and nothing else is said. Meaning: `specs/Arcs.antt`.
 ghost use Rattle.std.specs.Prelude.{◌≡◌, true, false, ℕ, ◌≤◌};
 ghost use Rattle.meaning.specs.Lists.{Is};
-ghost use Rattle.layout.specs.Accepted.{program_in, rule_in, RuleIn};
-ghost use Rattle.layout.specs.Layout.{Members, program_of};
+ghost use Rattle.layout.specs.Accepted.{program_in};
+ghost use Rattle.layout.specs.Layout.{Members};
 ghost use Rattle.heads.specs.Heads.{Listed};
 ghost use Rattle.levels.specs.View.{row};
 ghost use Rattle.reach.specs.Arcs.{arcs_of, listed};

@@ -1,8 +1,7 @@
 // The atoms that an atom reaches: a visit with a list of atoms still to visit and a mark for each atom (02, Wish 3).
 // Meaning: `specs/Visits.antt`; that a mark says exactly whether there is a chain of arcs: the contract of `visit`.
 ghost use Rattle.std.specs.Prelude.{◌≡◌, ◌≤◌, length};
-ghost use Rattle.layout.specs.Accepted.{program_in, rule_in, RuleIn};
-ghost use Rattle.layout.specs.Layout.{program_of};
+ghost use Rattle.layout.specs.Accepted.{program_in};
 ghost use Rattle.heads.specs.Heads.{Listed};
 ghost use Rattle.levels.specs.View.{row};
 ghost use Rattle.reach.specs.Arcs.{arcs_of};

@@ -2,8 +2,7 @@
 // again with them, in table order; the table is not copied. Meaning: `specs/Offering.antt`.
 ghost use Rattle.std.specs.Prelude.{◌≡◌, cond, ◌||◌, ◌+◌, ◌≤◌, ◌<◌, length, set};
 ghost use Rattle.levels.specs.View.{row};
-ghost use Rattle.layout.specs.Accepted.{program_in, rule_in, RuleIn};
-ghost use Rattle.layout.specs.Layout.{past_at, rule_at, Laid};
+ghost use Rattle.layout.specs.Layout.{past_at, rule_at};
 ghost use Rattle.heads.specs.Heads.{list_at, Listed};
 ghost use Rattle.promises.specs.Plans.{bit_of};
 ghost use Rattle.relaxing.specs.Relaxing.{headed};

@@ -8,7 +8,6 @@ ghost use Rattle.std.specs.Prelude.{◌≡◌, not, cond, ◌||◌, ◌++◌, �
 ghost use Rattle.meaning.specs.Program.{Program};
 ghost use Rattle.levels.specs.View.{row};
 ghost use Rattle.layout.specs.Accepted.{program_in, rule_in, RuleIn};
-ghost use Rattle.layout.specs.Layout.{rule_at, RuleLies, program_of, Laid};
 ghost use Rattle.heads.specs.Heads.{Listed};
 ghost use Rattle.promises.specs.Plans.{bit_of};
 ghost use Rattle.relaxing.specs.Relaxing.{rules_of, dropped_of, trial, relax};

@@ -6,8 +6,8 @@
 ghost use Rattle.std.specs.Prelude.{◌≡◌, Bool, false, not, ◌++◌, ◌≤◌, length};
 ghost use Rattle.levels.specs.View.{row, rows};
 ghost use Rattle.interpretation.specs.View.{valued};
-ghost use Rattle.layout.specs.Accepted.{program_in, rule_in, RuleIn};
-ghost use Rattle.layout.specs.Layout.{Members, Plain, Listed, PlainAt, part_at, past_at, rule_at};
+ghost use Rattle.layout.specs.Accepted.{rule_in, RuleIn};
+ghost use Rattle.layout.specs.Layout.{Members, Plain, Listed, PlainAt, part_at, past_at};
 ghost use Rattle.valuing.specs.Reasons.{reasons_of};
 ghost use Rattle.steps.specs.Steps.{head_lits, body_lits};
 ghost use Rattle.literals.specs.Scan.{atom_lits, literal_lits};

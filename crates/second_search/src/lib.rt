@@ -7,8 +7,7 @@ ghost use Rattle.std.specs.Prelude.{◌≡◌, Bool, true, false, map, ◌≤◌
 ghost use Rattle.meaning.specs.Answers.{body, reduct};
 ghost use Rattle.interpretation.specs.State.{AllDefined, true_atoms, lowest};
 ghost use Rattle.interpretation.specs.View.{valued};
-ghost use Rattle.layout.specs.Accepted.{program_in, rule_in, RuleIn};
-ghost use Rattle.layout.specs.Layout.{rule_at};
+ghost use Rattle.layout.specs.Accepted.{rule_in, RuleIn};
 ghost use Rattle.heads.specs.Heads.{AllLie};
 ghost use Rattle.steps.specs.Steps.{pass, passes};
 ghost use Rattle.rules.specs.Demand.{demand_of};

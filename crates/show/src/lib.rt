@@ -5,7 +5,6 @@
 #![tactic(auto)]
 
 ghost use Rattle.std.specs.Prelude.{◌≡◌, ◌++◌, ◌+◌, ◌<◌, ◌≤◌, length, get_or, take};
-ghost use Rattle.layout.specs.Accepted.{program_in, rule_in, RuleIn};
 ghost use Rattle.table.specs.Contents.{no_aggregate};
 ghost use Rattle.bytes_out.specs.Putting.{Put};
 ghost use Rattle.notation.specs.Notation.{name_line, names_text, text_by, text_of};

@@ -1,6 +1,5 @@
 // How many aggregates need a name: those after them are taken in turn by the literals of the rules, each once. Meaning: `notation`, `named`.
 ghost use Rattle.std.specs.Prelude.{◌≡◌, ◌<◌, ◌≤◌, pos, length, get_or};
-ghost use Rattle.layout.specs.Accepted.{program_in, rule_in, RuleIn};
 ghost use Rattle.layout.specs.Layout.{Members, nat_at};
 ghost use Rattle.notation.specs.Notation as N;
 ghost use Rattle.aspif_parts.specs.Held.{numbered_from, held_by};

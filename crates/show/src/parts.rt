@@ -1,7 +1,7 @@
 // Parts of a text with something between them: atoms, the elements of an aggregate. Meaning: `notation`, `specs/Notation.antt`.
 ghost use Rattle.std.specs.Prelude.{◌≡◌, map, ◌++◌, ◌+◌, ◌<◌, ◌≤◌, pos, length, get_or};
 ghost use Rattle.layout.specs.Layout as L;
-ghost use Rattle.layout.specs.Layout.{pairs, nat_at, function_by, comparison_by, aggregate_at, past_aggregate};
+ghost use Rattle.layout.specs.Layout.{pairs, nat_at, aggregate_at, past_aggregate};
 ghost use Rattle.bytes_out.specs.Putting.{Put};
 ghost use Rattle.notation.specs.Notation as N;
 ghost use Rattle.notation.specs.Notation.{before, joined_from, comma, atom_text, element_text, function_text, comparison_text, threshold_text, aggregate_text};

@@ -1,8 +1,8 @@
 // The rules of a table as lines, each after its number. Meaning: `notation`, `rule_text` and `rules_text`.
 ghost use Rattle.std.specs.Prelude.{◌≡◌, cond, map, ◌++◌, ◌<◌, ◌≤◌, leb, pos, length, get_or};
 ghost use Rattle.layout.specs.Layout as L;
-ghost use Rattle.layout.specs.Accepted.{program_in, rule_in, RuleIn};
-ghost use Rattle.layout.specs.Layout.{Members, RuleLies};
+ghost use Rattle.layout.specs.Accepted.{RuleIn};
+ghost use Rattle.layout.specs.Layout.{Members};
 ghost use Rattle.table.specs.Contents.{aggregate_by};
 ghost use Rattle.bytes_out.specs.Putting.{Put};
 ghost use Rattle.notation.specs.Notation as N;

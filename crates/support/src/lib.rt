@@ -10,7 +10,7 @@ ghost use Rattle.levels.specs.View.{row, rows};
 ghost use Rattle.interpretation.specs.View.{valued};
 ghost use Rattle.meaning.specs.Lists.{has};
 ghost use Rattle.layout.specs.Accepted.{program_in, rule_in, RuleIn};
-ghost use Rattle.layout.specs.Layout.{Members, rule_at};
+ghost use Rattle.layout.specs.Layout.{Members};
 ghost use Rattle.heads.specs.Heads.{Listed};
 ghost use Rattle.valuing.specs.Reasons.{reason_of};
 ghost use Rattle.literals.specs.Scan.{literal_lits, first_false};

@@ -6,7 +6,6 @@ ghost use Rattle.std.specs.Prelude.{◌≡◌, ◌-◌, ◌≤◌, max, ltb};
 ghost use Rattle.levels.specs.View.{row};
 ghost use Rattle.interpretation.specs.State.{lowest, true_atoms, AllDefined};
 ghost use Rattle.interpretation.specs.View.{choices, valued};
-ghost use Rattle.layout.specs.Accepted.{program_in, rule_in, RuleIn};
 ghost use Rattle.heads.specs.Heads.{Listed, taking};
 ghost use Rattle.smaller.specs.Cyclic.{test_by};
 ghost use Rattle.second_search.specs.Looking.{tested_of};
