@@ -206,7 +206,7 @@ pub fn put_all_used(t: &Accepted, news: &[u16; 128], at: usize, out: &mut [u8]) 
     let n = t.places.aggregates;
     let mut to = at;
     for j in 0..n {
-        let begin = start(t, j);
+        let begin = start(t.places, j);
         let plain = 2 * j;
         let negated = plain + 1;
         let between = put_used(t.words, begin, news[plain], to, out);

@@ -10,7 +10,7 @@ ghost use Rattle.aspif.specs.Writing as W;
 ghost use Rattle.aspif_parts.specs.Uses.{place_of};
 ghost use Rattle.aspif_parts.specs.Parts.{bound_by, passes_by, bad_for_least, bad_for_most, test_of};
 
-use layout::Accepted;
+use layout::Table;
 use meaning::{Comparison, Function};
 
 // A test of an element's value: less than the bound, or at least the bound.
@@ -127,9 +127,9 @@ pub fn place(l: &[i32], i: usize) -> usize
 }
 
 // Where aggregate j + 1 begins.
-pub fn start(t: &Accepted, j: usize) -> usize
+pub fn start(tb: Table, j: usize) -> usize
     requires { j < 64 }
-    ensures { result ≡ get_or t.now.places.starts j 0 }
+    ensures { result ≡ get_or tb.starts j 0 }
 {
-    t.places.starts[j] as usize
+    tb.starts[j] as usize
 }

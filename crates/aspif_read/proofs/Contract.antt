@@ -167,6 +167,9 @@ module _ (text : List ℕ) (old : List ℤ) where
   pub reads_outside : (k : ℕ) → 16384 ≤ length old → read_text text ≡ refused14 k → Reads text old (Err (OutsideSubset k)) old
   reads_outside k h e = reads_as (refused14 k) (Err (OutsideSubset k)) old h e (record { result = refl; kept = refl })
 
+  pub reads_beyond : (k : ℕ) → 16384 ≤ length old → read_text text ≡ refused15 k → Reads text old (Err (BeyondRange k)) old
+  reads_beyond k h e = reads_as (refused15 k) (Err (BeyondRange k)) old h e (record { result = refl; kept = refl })
+
   refused_as : (o : Outcome) (why : Refusal) → surveyed o ≡ Err why → ReadsAs text old o (Err why) old
   refused_as (accepted ss) why e = absurd (let z : ◌≡◌ {A = ℕ} 0 1 = cc in omega arith)
   refused_as (refused14 k) why e = let q : why ≡ OutsideSubset k = cc in record { result = ap Err q; kept = refl }

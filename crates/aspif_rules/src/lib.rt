@@ -53,7 +53,7 @@ fn put_literal(
     ensures { Put out.old at (literal_text (stated_literal (held_by t.now.words.now t.now.places) (get_or l.now i (pos 0)))) result out.new }
 {
     let number = words::atom(l, i) - 1;
-    let begin = start(t, number);
+    let begin = start(t.places, number);
     let slot = place(l, i);
     put_new(t.words, begin, news[slot], negated(l, i), at, out)
 }

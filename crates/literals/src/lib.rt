@@ -13,7 +13,7 @@ ghost use Rattle.valuing.specs.Reasons.{reason_at, reason_of, reasons_of};
 ghost use Rattle.literals.specs.Scan.{atom_lits, literal_lits, first_false, atoms_reason};
 
 use interpretation::Value;
-use layout::Accepted;
+use layout::{Accepted, Table};
 
 mod aggregates;
 mod settling;
@@ -111,12 +111,12 @@ pub fn atoms_reason(
 // ---- lists of aggregate literals
 
 // Where the aggregate of the literal at index k of a list begins.
-pub fn start(t: &Accepted, l: &[i32], k: usize) -> usize
+pub fn start(tb: Table, l: &[i32], k: usize) -> usize
     requires { (k < length l.now) × (1 ≤ nat_abs (get_or l.now k (pos 0))) × (nat_abs (get_or l.now k (pos 0)) ≤ 64) }
-    ensures { result ≡ get_or t.now.places.starts (nat_abs (get_or l.now k (pos 0)) - 1) 0 }
+    ensures { result ≡ get_or tb.starts (nat_abs (get_or l.now k (pos 0)) - 1) 0 }
 {
     let place = words::atom(l, k) - 1;
-    t.places.starts[place] as usize
+    tb.starts[place] as usize
 }
 
 // The value of the aggregate literal at index k of a list of them.
@@ -124,7 +124,7 @@ pub fn literal_value(t: &Accepted, l: &[i32], k: usize, values: &[u8; 256]) -> V
     requires { Members t.now.places.aggregates l.now × (k < length l.now) }
     ensures { result ≡ literal_value (valued values.now) (literal_of t.now.words.now (get_or l.now k (pos 0))) }
 {
-    let at = start(t, l, k);
+    let at = start(t.places, l, k);
     let v = aggregates::aggregate_value(t.words, at, values);
     signed(0 <= l[k], v)
 }
@@ -154,7 +154,7 @@ pub fn literal_reason(
     requires { Members t.now.places.aggregates l.now × (k < length l.now) }
     ensures { row result ≡ union (reason_of (valued values.now) (rows reasons.now) (agg_lit (literal_of t.now.words.now (get_or l.now k (pos 0))))) (row more) }
 {
-    let at = start(t, l, k);
+    let at = start(t.places, l, k);
     settling::aggregate_reason(t.words, at, values, reasons, more)
 }
 

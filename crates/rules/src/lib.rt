@@ -41,7 +41,7 @@ pub fn atoms_ask(l: &[i32], sign: bool, values: &[u8; 256]) -> Step
     ensures { result ≡ asks (valued values.now) (atom_lits sign l.now) }
 {
     // The undefined atom passed so far, 0 if there is none.
-    // Stays: as an Option, the loop on its own took up to twice as long on lists of six atoms and more.
+    // Stays: as an Option, the loop on its own took more than twice as long on lists of six atoms and more.
     let mut only: usize = 0;
     for i in 0..l.len() {
         let b = literals::byte_at(l, i, values);

@@ -31,7 +31,7 @@ fn put_named(t: &Accepted, j: usize, at: usize, out: &mut [u8]) -> usize
     let number = j + 1;
     let after_name = put_name(number, at, out);
     let after_is = put(b" = ", after_name, out);
-    let after_aggregate = put_aggregate(t.words, start(t, j), after_is, out);
+    let after_aggregate = put_aggregate(t.words, start(t.places, j), after_is, out);
     put(b".\n", after_aggregate, out)
 }
 

@@ -31,7 +31,7 @@ fn put_reference(t: &Accepted, d: usize, j: usize, at: usize, out: &mut [u8]) ->
         return put_name(j, at, out);
     }
     let place = j - 1;
-    put_aggregate(t.words, start(t, place), at, out)
+    put_aggregate(t.words, start(t.places, place), at, out)
 }
 
 // The aggregate literal at index i of a rule's list.
