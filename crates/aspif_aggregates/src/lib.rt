@@ -51,7 +51,7 @@ fn put_weight(
     at
 }
 
-// Stays: three short walks, with `put_all_barred` and `put_all_good`: a shared one would need what it puts and the text of that as arguments.
+// Stays: three short walks, with `put_all_barred` and `put_all_good`: one walk would take a closure, and its contract what that puts.
 // The elements of a weight body that pass: each with weight 1 in a count.
 fn put_weights(test: Test, count: bool, l: &[i32], at: usize, out: &mut [u8]) -> usize
     ensures { Put out.old at (pairs_text (weights_by test count (pairs l.now))) result out.new }

@@ -54,7 +54,7 @@ fn put_threshold(bound: usize, at: usize, words: &mut [i32]) -> usize
     put(threshold, at, words)
 }
 
-// Stays: two short walks, this one and `put_elements`: a shared one would need what it puts and the words of that as arguments.
+// Stays: two short walks, this one and `put_elements`: one walk would take a closure, and its contract what that puts.
 // The atoms of a row.
 fn put_members(marks: &[u32; 1280], row: usize, at: usize, words: &mut [i32]) -> usize
     requires { (at ≤ length words.old) × (row < 5) }

@@ -15,7 +15,7 @@ pub struct Taken {
     pub before: usize,
 }
 
-// Stays: one function, told by two flags: with a function for each pass the marks lay on the stack twice, 10.4 KiB where 8 are allowed.
+// Stays: one function, told by two flags: with a function for each pass the marks lay on the stack twice, 10.4 KiB where 8 may be used.
 // The judgement of a statement, in the first pass; or what it adds to a section: its rule, or its aggregate if it has one.
 pub fn take(
     line: &[u8],

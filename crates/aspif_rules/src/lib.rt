@@ -17,7 +17,7 @@ use aspif_parts::{negated, place, start, straight, turned};
 use bytes_out::{put, put_byte, put_field, put_signed};
 use layout::Accepted;
 
-// Stays: two short walks, this one and `put_literals`: a shared one would need what it puts and the text of that as arguments.
+// Stays: two short walks, this one and `put_literals`: one walk would take a closure, and its contract what that puts.
 // Atoms, each plain or each negated.
 pub fn put_atoms(l: &[i32], plain: bool, at: usize, out: &mut [u8]) -> usize
     requires { Members 256 l.now }

@@ -40,7 +40,7 @@ fn marked(t: &Accepted) -> [u16; 128]
     marks
 }
 
-// Stays: 0 says that a literal is not in use; an `Option` in each place would double the 256 bytes of the new atoms.
+// Stays: 0 says that a literal is not in use, as `NewAtoms` has it, whose meaning may not change.
 // The new atom of a literal with this mark, where `next` is the next one that is free; 0 where the literal is not in use.
 fn atom(mark: u16, next: u16) -> u16
     ensures { result ≡ atom_by mark next }

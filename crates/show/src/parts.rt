@@ -46,7 +46,7 @@ fn put_atom(
     put_number(words::atom(l, i), after_word, out)
 }
 
-// Stays: three short walks, this one, `put_elements` and `put_literals`: a shared one would need what it puts and the text of that as arguments.
+// Stays: three short walks, this one, `put_elements` and `put_literals`: one walk would take a closure, and its contract what that puts.
 // Atoms, each with a word before it.
 pub fn put_atoms(
     l: &[i32],

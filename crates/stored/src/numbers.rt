@@ -43,7 +43,7 @@ pub fn count_at(bytes: &[u8], at: usize, most: usize) -> Result<Got, Refusal>
 }
 
 // A function, comparison or value of 0 to `high` at `at`.
-// Stays: it differs from `count_at` in the refusal alone, and one function for both would take the refusal of a place as an argument.
+// Stays: it differs from `count_at` in the refusal; one function would be told that by a closure, and its contract would speak of two definitions.
 fn quantity_at(bytes: &[u8], at: usize, high: usize) -> Result<Got, Refusal>
     requires { at ≤ length bytes.now }
     ensures { result ≡ got_of (step_of (quantity (pos 0) (pos high)) at (drop at bytes.now)) }
