@@ -14,7 +14,7 @@ NAME = re.compile(r"^[^\s/]+$")
 
 def occurs(name, text):
     plain = name.split("::")[-1]
-    return re.search(r"(?<![^\s(){}.,;:`])" + re.escape(plain) + r"(?![^\s(){}.,;:`])", text) is not None
+    return re.search(r"(?<![^\s(){}.,;:`])" + re.escape(plain) + r"(?![^\s(){}.,;:`<])", text) is not None
 
 
 def faults(page):

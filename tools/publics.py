@@ -20,7 +20,7 @@ import re
 import sys
 
 ROOT = os.path.join(os.path.dirname(os.path.abspath(__file__)), "..", "crates")
-FUNCTION = re.compile(r'^[ ]*pub (?:extern "C" )?fn (\w+)\(', re.M)
+FUNCTION = re.compile(r'^[ ]*pub (?:extern "C" )?fn (\w+)(?:<.*?>)?\(', re.M)
 
 
 def libraries():

@@ -5,16 +5,16 @@
 ghost use Rattle.std.specs.Prelude.{◌≡◌, true, map, ◌++◌, [], ◌∷◌, ◌+◌, ◌≤◌, ◌<◌, ◌*◌, length};
 ghost use Rattle.meaning.specs.Lists.{keep};
 ghost use Rattle.meaning.specs.declared.Comparison.TheVariants.{Greater};
-ghost use Rattle.layout.specs.Layout.{Laid, AggregateLies, aggregate_at, pairs};
+ghost use Rattle.layout.specs.Layout.{AggregateLies, aggregate_at, pairs};
 ghost use Rattle.aspif.specs.Writing.{with, barred, stating, bodies_of, defining_all, used};
 ghost use Rattle.bytes_out.specs.Putting.{Put};
 ghost use Rattle.aspif_parts.specs.Held.{held_by};
 ghost use Rattle.aspif_parts.specs.Uses.{NewAtoms};
-ghost use Rattle.aspif_parts.specs.Parts.{line_text, lines_text, head_text, literals_text, pairs_text, bound_by, passes_by, pass_of, bad_for_least, bad_for_most, test_of, bit_of, weights_by, weighed, reached_body, barred_by, element_body, element_bodies, stating_all, AtomsFrom1, used_lines, element_of, weight_text, barred_text, good_text};
+ghost use Rattle.aspif_parts.specs.Parts.{line_text, lines_text, head_text, literals_text, pairs_text, bound_by, passes_by, pass_of, bad_for_least, bad_for_most, test_of, weights_by, weighed, reached_body, barred_by, element_body, element_bodies, stating_all, AtomsFrom1, used_lines, element_of, weight_text, barred_text, good_text};
 
-use aspif_parts::{Test, at_least, bad_for_least, bad_for_most, bound, one_if, passes, start};
+use aspif_parts::{Test, at_least, bad_for_least, bad_for_most, bound, passes, start};
 use bytes_out::{put, put_byte, put_field, put_signed};
-use layout::Table;
+use layout::Accepted;
 use meaning::{Comparison, Function};
 
 // How many elements pass.
@@ -22,10 +22,10 @@ fn passing(test: Test, l: &[i32]) -> usize
     ensures { (result ≡ length (keep (pass_of test) (pairs l.now))) × (result ≤ length l.now) }
 {
     let mut n: usize = 0;
-    let mut i: usize = 0;
-    while i + 1 < l.len() {
-        n += one_if(passes(test, words::atom(l, i)));
-        i += 2;
+    for j in 0..l.len() / 2 {
+        if passes(test, words::atom(l, 2 * j)) {
+            n += 1;
+        }
     }
     n
 }
@@ -51,17 +51,15 @@ fn put_weight(
     at
 }
 
+// Stays: three short walks, with `put_all_barred` and `put_all_good`: one walk would take a closure, and its contract what that puts.
 // The elements of a weight body that pass: each with weight 1 in a count.
 fn put_weights(test: Test, count: bool, l: &[i32], at: usize, out: &mut [u8]) -> usize
     ensures { Put out.old at (pairs_text (weights_by test count (pairs l.now))) result out.new }
 {
     let mut to = at;
-    let mut i: usize = 0;
-    while i + 1 < l.len() {
-        let value = words::atom(l, i);
-        let next = i + 1;
-        to = put_weight(test, count, value, words::atom(l, next), to, out);
-        i += 2;
+    for j in 0..l.len() / 2 {
+        let value = words::atom(l, 2 * j);
+        to = put_weight(test, count, value, words::atom(l, 2 * j + 1), to, out);
     }
     to
 }
@@ -114,12 +112,9 @@ fn put_all_barred(test: Test, l: &[i32], at: usize, out: &mut [u8]) -> usize
     ensures { Put out.old at (literals_text (barred_by test (pairs l.now))) result out.new }
 {
     let mut to = at;
-    let mut i: usize = 0;
-    while i + 1 < l.len() {
-        let value = words::atom(l, i);
-        let next = i + 1;
-        to = put_barred(test, value, words::atom(l, next), to, out);
-        i += 2;
+    for j in 0..l.len() / 2 {
+        let value = words::atom(l, 2 * j);
+        to = put_barred(test, value, words::atom(l, 2 * j + 1), to, out);
     }
     to
 }
@@ -163,12 +158,9 @@ fn put_all_good(p: usize, good: Test, bad: Test, l: &[i32], at: usize, out: &mut
     ensures { Put out.old at (lines_text (stating_all p (element_bodies good bad (pairs l.now) (pairs l.now)))) result out.new }
 {
     let mut to = at;
-    let mut i: usize = 0;
-    while i + 1 < l.len() {
-        let value = words::atom(l, i);
-        let next = i + 1;
-        to = put_if_good(p, good, bad, value, words::atom(l, next), l, to, out);
-        i += 2;
+    for j in 0..l.len() / 2 {
+        let value = words::atom(l, 2 * j);
+        to = put_if_good(p, good, bad, value, words::atom(l, 2 * j + 1), l, to, out);
     }
     to
 }
@@ -207,20 +199,18 @@ fn put_used(t: &[i32], begin: usize, new: u16, at: usize, out: &mut [u8]) -> usi
 }
 
 // The lines of all new atoms, by aggregate number, j before -j.
-pub fn put_all_used(t: &[i32], tb: Table, news: &[u16; 128], at: usize, out: &mut [u8]) -> usize
-    requires { Laid t.now tb × NewAtoms (held_by t.now tb) news.now }
-    ensures { Put out.old at (lines_text (defining_all (held_by t.now tb) (used (held_by t.now tb)))) result out.new }
+pub fn put_all_used(t: &Accepted, news: &[u16; 128], at: usize, out: &mut [u8]) -> usize
+    requires { NewAtoms (held_by t.now.words.now t.now.places) news.now }
+    ensures { Put out.old at (lines_text (defining_all (held_by t.now.words.now t.now.places) (used (held_by t.now.words.now t.now.places)))) result out.new }
 {
-    let n = tb.aggregates;
+    let n = t.places.aggregates;
     let mut to = at;
-    let mut j: usize = 0;
-    while j < n {
-        let begin = start(tb, j);
+    for j in 0..n {
+        let begin = start(t.places, j);
         let plain = 2 * j;
         let negated = plain + 1;
-        let between = put_used(t, begin, news[plain], to, out);
-        to = put_used(t, begin, news[negated], between, out);
-        j += 1;
+        let between = put_used(t.words, begin, news[plain], to, out);
+        to = put_used(t.words, begin, news[negated], between, out);
     }
     to
 }

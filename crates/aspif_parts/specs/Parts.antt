@@ -69,10 +69,6 @@ abbrev pub bad_for_most : Comparison → ℕ → Test
 bad_for_most Less b = test_of Greater b
 bad_for_most Greater b = test_of Less 0
 
-abbrev pub is_less : Comparison → Bool
-is_less Less = true
-is_less Greater = false
-
 abbrev pub bit_of : Bool → ℕ
 bit_of true = 1
 bit_of false = 0

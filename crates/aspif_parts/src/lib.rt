@@ -8,7 +8,7 @@ ghost use Rattle.std.specs.Int.Signed.{non_neg};
 ghost use Rattle.meaning.specs.declared.Comparison.TheVariants.{Greater};
 ghost use Rattle.aspif.specs.Writing as W;
 ghost use Rattle.aspif_parts.specs.Uses.{place_of};
-ghost use Rattle.aspif_parts.specs.Parts.{bound_by, passes_by, bad_for_least, bad_for_most, test_of, bit_of, is_less};
+ghost use Rattle.aspif_parts.specs.Parts.{bound_by, passes_by, bad_for_least, bad_for_most, test_of};
 
 use layout::Table;
 use meaning::{Comparison, Function};
@@ -25,7 +25,7 @@ pub fn negated(l: &[i32], i: usize) -> bool
     requires { i < length l.now }
     ensures { result ≡ not (non_neg (get_or l.now i (pos 0))) }
 {
-    words::below(l[i])
+    l[i] < 0
 }
 
 // The lower bound at which a comparison with the threshold at index i turns, 0 for one of 0 or less: v < t fails if v reaches t, v > t holds if v
@@ -53,12 +53,6 @@ pub fn passes(test: Test, value: usize) -> bool
         Comparison::Less => value < b,
         Comparison::Greater => b <= value,
     }
-}
-
-pub fn one_if(b: bool) -> usize
-    ensures { result ≡ bit_of b }
-{
-    if b { 1 } else { 0 }
 }
 
 // The elements that must not be true beside a good one: none for the least below, the bad ones for the least above.
@@ -107,19 +101,8 @@ pub fn turned(f: Function, k: Comparison) -> bool
     ensures { result ≡ W.turned f k }
 {
     match f {
-        Function::Count => less(k),
-        Function::Sum => less(k),
-        Function::Min => false,
-        Function::Max => false,
-    }
-}
-
-fn less(k: Comparison) -> bool
-    ensures { result ≡ is_less k }
-{
-    match k {
-        Comparison::Less => true,
-        Comparison::Greater => false,
+        Function::Count | Function::Sum => matches!(k, Comparison::Less),
+        Function::Min | Function::Max => false,
     }
 }
 
@@ -127,10 +110,7 @@ fn less(k: Comparison) -> bool
 pub fn straight(negated: bool, turn: bool) -> bool
     ensures { result ≡ beq (not negated) (not turn) }
 {
-    if turn {
-        return negated;
-    }
-    !negated
+    negated == turn
 }
 
 // The place of the literal at index i of a list.

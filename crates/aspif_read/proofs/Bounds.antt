@@ -5,10 +5,11 @@ use mathlib.Core.List.{List, [], ◌∷◌}
 use Prim.Native.Nat.{ℕ, zero, suc, ◌+◌, ◌≤◌, min}
 use native.Mathlib.Omega.{arith}
 use borrow.Author.Tests.{ltb-false}
-use lib.Dec.{leb, ltb}
+use lib.Dec.{ltb}
 use lib.IntN.{pos, pred_ℤ}
 use Prim.Native.Nat.{◌-◌}
 use lib.ListN.{get_or, set, replicate}
+use Rattle.std.specs.Prelude.{Option, Some, None}
 use Rattle.text.specs.Text.{pick}
 use Rattle.aspif_scan.specs.declared.number.Number.{Number}
 use Rattle.aspif_scan.specs.declared.machine.Stage.{Stage}
@@ -51,10 +52,11 @@ step_low NormalEnd s n h = record { bound = h.bound; top = h.top }
 step_low WeightEnd s n h = record { bound = h.bound; top = h.top }
 step_low Outside s n h = record { bound = h.bound; top = h.top }
 
-read_low : (s : State) (ns : List Number) → Low s → Low (read_by s ns)
+read_low : (s : State) (ns : List (Option Number)) → Low s → Low (read_by s ns)
 unfolding read_by step_of
 read_low s [] h = h
-read_low s (n ∷ ns) h = read_low (step_of s n) ns (step_low s.stage s n h)
+read_low s (None ∷ ns) h = read_low (step_of s None) ns (record { bound = h.bound; top = h.top })
+read_low s (Some n ∷ ns) h = read_low (step_of s (Some n)) ns (step_low s.stage s n h)
 
 line_low : (line : List ℕ) → Low (state_of line)
 line_low line = read_low start_of (numbers_in line) (record { bound = omega arith; top = omega arith })
@@ -74,13 +76,10 @@ set_capped (x ∷ m) zero v (suc j) h k = h (suc j)
 set_capped (x ∷ m) (suc i) v zero h k = h 0
 set_capped (x ∷ m) (suc i) v (suc j) h k = set_capped m i v j (λ l. h (suc l)) k
 
-pub add_capped : (m : List ℕ) (i more : ℕ) → Capped m → Capped (add_of m i more)
+pub add_capped : (m : List ℕ) (slot : Option ℕ) (more : ℕ) → Capped m → Capped (add_of m slot more)
 unfolding add_of
-add_capped m i more h j = at (leb 1280 i)
-  where
-    at : (b : Bool) → get_or (pick b m (set m i (min (get_or m i 0 + more) 65536))) j 0 ≤ 65536
-    at true = h j
-    at false = set_capped m i (min (get_or m i 0 + more) 65536) j h (omega arith)
+add_capped m None more h j = h j
+add_capped m (Some i) more h j = set_capped m i (min (get_or m i 0 + more) 65536) j h (omega arith)
 
 mark_capped : (t : Stage) (p : ℕ) (n : Number) (m : List ℕ) → Capped m → Capped (mark_at t p n m)
 mark_capped Rule p n m h = h
@@ -98,10 +97,11 @@ mark_capped NormalEnd p n m h = h
 mark_capped WeightEnd p n m h = h
 mark_capped Outside p n m h = h
 
-by_capped : (s : State) (ns : List Number) (m : List ℕ) → Capped m → Capped (marks_by s ns m)
+by_capped : (s : State) (ns : List (Option Number)) (m : List ℕ) → Capped m → Capped (marks_by s ns m)
 unfolding marks_by mark_of
 by_capped s [] m h = h
-by_capped s (n ∷ ns) m h = by_capped (step_of s n) ns (mark_of s n m) (mark_capped s.stage s.atom n m h)
+by_capped s (None ∷ ns) m h = by_capped (step_of s None) ns m h
+by_capped s (Some n ∷ ns) m h = by_capped (step_of s (Some n)) ns (mark_of s (Some n) m) (mark_capped s.stage s.atom n m h)
 
 pub none_at : (n i : ℕ) → ◌≡◌ {A = ℕ} (get_or (replicate n 0) i 0) 0
 none_at zero i = refl

@@ -8,12 +8,11 @@ use borrow.Author.Tests.{lt-ltb, le-ltb, ltb-true, ltb-false}
 use lib.Dec.{eqb, ltb}
 use lib.IntN.{ℤ}
 use lib.ListN.{length, take, drop, length-append, length-take}
+use Rattle.std.specs.Prelude.{Option, Some, None, Result, Ok, Err}
 use Rattle.meaning.specs.Foundedness.{same_list}
 use Rattle.meaning.proofs.Tools.{and_r}
 use Rattle.results.specs.declared.Refusal.{Refusal}
 use Rattle.results.specs.declared.Refusal.TheVariants.{OutsideSubset, BeyondRange, ShortWords}
-use Rattle.results.specs.declared.Written.{Written}
-use Rattle.results.specs.declared.Written.TheVariants.{Wrote, Refused}
 use Rattle.table.specs.Contents.{Each, encode}
 use Rattle.text.specs.Text.{pick, ended}
 use Rattle.text.proofs.Reading.{sets_over}
@@ -22,16 +21,13 @@ use Rattle.aspif.specs.Reading as R
 use Rattle.aspif.specs.Lines.{lines_from, lines_of, Outcome, accepted, refused14, refused15, read_lines, header, headed, read_text}
 use Rattle.aspif.proofs.Accepted.{text_read}
 use Rattle.aspif.proofs.Words.{reads_table}
+use Rattle.aspif_read.specs.declared.judge.Fault.{Fault}
 use Rattle.aspif_read.specs.declared.survey.Totals.{Totals}
-use Rattle.aspif_read.specs.declared.survey.Step.{Step}
-use Rattle.aspif_read.specs.declared.survey.Step.TheVariants as step
-use Rattle.aspif_read.specs.declared.survey.Survey.{Survey}
-use Rattle.aspif_read.specs.declared.survey.Survey.TheVariants as survey
 use Rattle.aspif_read.specs.Survey.{line_length, Fitting, no_rules, after_line, closed_of, survey_from}
 use Rattle.aspif_read.specs.Writing.{Put, weighed_in, table_from}
 use Rattle.aspif_read.specs.Reads.{Refuses, ReadsAs, ReadsFirst, Reads}
 use Rattle.aspif_read.proofs.LineLaws.{line_first, lines_none}
-use Rattle.aspif_read.proofs.Laws.{after_fits, survey_next, survey_closing, survey_beyond, survey_outside, survey_none}
+use Rattle.aspif_read.proofs.Laws.{after_fits, survey_next, survey_closing, survey_fault, survey_none}
 use Rattle.aspif_read.proofs.Puts.{put_length}
 use Rattle.aspif_read.proofs.Whole.{totals_of, surveyed, Short, survey_agree}
 use Rattle.aspif_read.proofs.Sections.{Sums, lines_sum, table_is}
@@ -110,19 +106,18 @@ module _ (text : List ℕ) (e : same_list (first_line text) header ≡ true) whe
 
 -- ---- the first pass
 
-pub survey_fits : (ls : List (List ℕ)) (k : ℕ) (t v : Totals) → Fitting t → survey_from k t ls ≡ survey.Table v → Fitting v
+pub survey_fits : (ls : List (List ℕ)) (k : ℕ) (t v : Totals) → Fitting t → survey_from k t ls ≡ Ok v → Fitting v
 survey_fits [] k t v f e = absurd (let q = sym (survey_none k t) ∙ e in let z : ◌≡◌ {A = ℕ} 0 1 = cc in omega arith)
 survey_fits (l ∷ ls) k t v f e = at (after_line t l) refl (λ u g h. survey_fits ls (suc k) u v g h)
   where
-    at : (s : Step) → after_line t l ≡ s → ((u : Totals) → Fitting u → survey_from (suc k) u ls ≡ survey.Table v → Fitting v) → Fitting v
-    at (step.Next u) g r = r u (after_fits t l u f g) (sym (survey_next k t l ls u g) ∙ e)
-    at step.Closing g r = last ls (sym (survey_closing k t l ls g) ∙ e)
+    at : (s : Result (Option Totals) Fault) → after_line t l ≡ s → ((u : Totals) → Fitting u → survey_from (suc k) u ls ≡ Ok v → Fitting v) → Fitting v
+    at (Ok (Some u)) g r = r u (after_fits t l u f g) (sym (survey_next k t l ls u g) ∙ e)
+    at (Ok None) g r = last ls (sym (survey_closing k t l ls g) ∙ e)
       where
-        last : (ks : List (List ℕ)) → closed_of (suc k) t ks ≡ survey.Table v → Fitting v
+        last : (ks : List (List ℕ)) → closed_of (suc k) t ks ≡ Ok v → Fitting v
         last [] h = let q : t ≡ v = cc in subst Fitting q f
         last (x ∷ ks) h = absurd (let z : ◌≡◌ {A = ℕ} 0 1 = cc in omega arith)
-    at step.Beyond g r = absurd (let q = sym (survey_beyond k t l ls g) ∙ e in let z : ◌≡◌ {A = ℕ} 0 1 = cc in omega arith)
-    at step.Outside g r = absurd (let q = sym (survey_outside k t l ls g) ∙ e in let z : ◌≡◌ {A = ℕ} 0 1 = cc in omega arith)
+    at (Err w) g r = absurd (let q = sym (survey_fault k t l ls w g) ∙ e in let z : ◌≡◌ {A = ℕ} 0 1 = cc in omega arith)
 
 none_totals : no_rules ≡ totals_of []
 unfolding encode R.read
@@ -131,41 +126,25 @@ none_totals = refl
 none_fits : Fitting no_rules
 none_fits = record { words = omega arith; aggregates = omega arith; rules = omega arith; top = omega arith }
 
-pub table_fits : (ls : List (List ℕ)) (v : Totals) → survey_from 2 no_rules ls ≡ survey.Table v → Fitting v
+pub table_fits : (ls : List (List ℕ)) (v : Totals) → survey_from 2 no_rules ls ≡ Ok v → Fitting v
 table_fits ls v e = survey_fits ls 2 no_rules v none_fits e
 
-found : (ls : List (List ℕ)) → Short ls → (o : Survey) → survey_from 2 no_rules ls ≡ o → surveyed (read_lines 2 [] ls) ≡ o
+found : (ls : List (List ℕ)) → Short ls → (o : Result Totals Refusal) → survey_from 2 no_rules ls ≡ o → surveyed (read_lines 2 [] ls) ≡ o
 found ls u o e = sym (survey_agree ls 2 [] u) ∙ ap (λ (t : Totals). survey_from 2 t ls) (sym none_totals) ∙ e
 
-is_table : (o : Outcome) (v : Totals) → surveyed o ≡ survey.Table v → (ss : List Statement) × (o ≡ accepted ss) × (v ≡ totals_of ss)
+is_table : (o : Outcome) (v : Totals) → surveyed o ≡ Ok v → (ss : List Statement) × (o ≡ accepted ss) × (v ≡ totals_of ss)
 is_table (accepted ss) v e = (ss, refl, let q : totals_of ss ≡ v = cc in sym q)
 is_table (refused14 k) v e = absurd (let z : ◌≡◌ {A = ℕ} 0 1 = cc in omega arith)
 is_table (refused15 k) v e = absurd (let z : ◌≡◌ {A = ℕ} 0 1 = cc in omega arith)
 
-is_outside : (o : Outcome) (k : ℕ) → surveyed o ≡ survey.Outside k → o ≡ refused14 k
-is_outside (accepted ss) k e = absurd (let z : ◌≡◌ {A = ℕ} 0 1 = cc in omega arith)
-is_outside (refused14 j) k e = let q : j ≡ k = cc in ap refused14 q
-is_outside (refused15 j) k e = absurd (let z : ◌≡◌ {A = ℕ} 0 1 = cc in omega arith)
-
-is_beyond : (o : Outcome) (k : ℕ) → surveyed o ≡ survey.Beyond k → o ≡ refused15 k
-is_beyond (accepted ss) k e = absurd (let z : ◌≡◌ {A = ℕ} 0 1 = cc in omega arith)
-is_beyond (refused14 j) k e = absurd (let z : ◌≡◌ {A = ℕ} 0 1 = cc in omega arith)
-is_beyond (refused15 j) k e = let q : j ≡ k = cc in ap refused15 q
-
 module _ (ls : List (List ℕ)) (u : Short ls) where
-  pub lines_outside : (k : ℕ) → survey_from 2 no_rules ls ≡ survey.Outside k → read_lines 2 [] ls ≡ refused14 k
-  lines_outside k e = is_outside (read_lines 2 [] ls) k (found ls u (survey.Outside k) e)
-
-  pub lines_beyond : (k : ℕ) → survey_from 2 no_rules ls ≡ survey.Beyond k → read_lines 2 [] ls ≡ refused15 k
-  lines_beyond k e = is_beyond (read_lines 2 [] ls) k (found ls u (survey.Beyond k) e)
-
-  pub lines_table : (v : Totals) → survey_from 2 no_rules ls ≡ survey.Table v → (ss : List Statement) × (read_lines 2 [] ls ≡ accepted ss) × (v ≡ totals_of ss) × Sums ls ss
+  pub lines_table : (v : Totals) → survey_from 2 no_rules ls ≡ Ok v → (ss : List Statement) × (read_lines 2 [] ls ≡ accepted ss) × (v ≡ totals_of ss) × Sums ls ss
   lines_table v e =
-      let t = is_table (read_lines 2 [] ls) v (found ls u (survey.Table v) e) in
+      let t = is_table (read_lines 2 [] ls) v (found ls u (Ok v) e) in
       let s = lines_sum ls 2 [] t.0 u t.1 in
       (t.0, t.1, t.2, subst (Sums ls) (sym s.1) s.2)
 
-  pub few_aggregates_lem : (v : Totals) → survey_from 2 no_rules ls ≡ survey.Table v → weighed_in ls ≤ 64
+  pub few_aggregates_lem : (v : Totals) → survey_from 2 no_rules ls ≡ Ok v → weighed_in ls ≤ 64
   few_aggregates_lem v e =
       let t = lines_table v e in
       let f = (table_fits ls v e).aggregates in
@@ -176,30 +155,39 @@ module _ (ls : List (List ℕ)) (u : Short ls) where
 -- ---- the contract
 
 module _ (text : List ℕ) (old : List ℤ) where
-  pub reads_short : length old < 16384 → Reads text old (Refused ShortWords) old
+  pub reads_short : length old < 16384 → Reads text old (Err ShortWords) old
   unfolding Reads
-  reads_short h = subst (λ (b : Bool). ReadsFirst b text old (Refused ShortWords) old) (sym (lt-ltb (length old) 16384 h)) (record { result = refl; kept = refl })
+  reads_short h = subst (λ (b : Bool). ReadsFirst b text old (Err ShortWords) old) (sym (lt-ltb (length old) 16384 h)) (record { result = refl; kept = refl })
 
-  reads_as : (o : Outcome) (r : Written) (new : List ℤ) → 16384 ≤ length old → read_text text ≡ o → ReadsAs text old o r new → Reads text old r new
+  reads_as : (o : Outcome) (r : Result ℕ Refusal) (new : List ℤ) → 16384 ≤ length old → read_text text ≡ o → ReadsAs text old o r new → Reads text old r new
   unfolding Reads
   reads_as o r new h e a =
       subst (λ (b : Bool). ReadsFirst b text old r new) (sym (le-ltb (length old) 16384 h)) (subst (λ (x : Outcome). ReadsAs text old x r new) (sym e) a)
 
-  pub reads_outside : (k : ℕ) → 16384 ≤ length old → read_text text ≡ refused14 k → Reads text old (Refused (OutsideSubset k)) old
-  reads_outside k h e = reads_as (refused14 k) (Refused (OutsideSubset k)) old h e (record { result = refl; kept = refl })
+  pub reads_outside : (k : ℕ) → 16384 ≤ length old → read_text text ≡ refused14 k → Reads text old (Err (OutsideSubset k)) old
+  reads_outside k h e = reads_as (refused14 k) (Err (OutsideSubset k)) old h e (record { result = refl; kept = refl })
 
-  pub reads_beyond : (k : ℕ) → 16384 ≤ length old → read_text text ≡ refused15 k → Reads text old (Refused (BeyondRange k)) old
-  reads_beyond k h e = reads_as (refused15 k) (Refused (BeyondRange k)) old h e (record { result = refl; kept = refl })
+  pub reads_beyond : (k : ℕ) → 16384 ≤ length old → read_text text ≡ refused15 k → Reads text old (Err (BeyondRange k)) old
+  reads_beyond k h e = reads_as (refused15 k) (Err (BeyondRange k)) old h e (record { result = refl; kept = refl })
+
+  refused_as : (o : Outcome) (why : Refusal) → surveyed o ≡ Err why → ReadsAs text old o (Err why) old
+  refused_as (accepted ss) why e = absurd (let z : ◌≡◌ {A = ℕ} 0 1 = cc in omega arith)
+  refused_as (refused14 k) why e = let q : why ≡ OutsideSubset k = cc in record { result = ap Err q; kept = refl }
+  refused_as (refused15 k) why e = let q : why ≡ BeyondRange k = cc in record { result = ap Err q; kept = refl }
+
+  -- a line is refused
+  pub reads_refused : (ls : List (List ℕ)) (why : Refusal) → Short ls → 16384 ≤ length old → read_text text ≡ read_lines 2 [] ls → survey_from 2 no_rules ls ≡ Err why → Reads text old (Err why) old
+  reads_refused ls why u h e f = reads_as (read_lines 2 [] ls) (Err why) old h e (refused_as (read_lines 2 [] ls) why (found ls u (Err why) f))
 
   pub reads_accepted : (ss : List Statement) (t : Totals) (ls : List (List ℕ)) (n : ℕ) (new : List ℤ) → 16384 ≤ length old → read_text text ≡ accepted ss → t ≡ totals_of ss → Sums ls ss
-      → Put old 0 (table_from t ls) n new → Reads text old (Wrote n) new
+      → Put old 0 (table_from t ls) n new → Reads text old (Ok n) new
   reads_accepted ss t ls n new h e f s p =
       let w : table_from t ls ≡ encode (R.read ss) = ap (λ (x : Totals). table_from x ls) f ∙ table_is ls ss s in
       let q : Put old 0 (encode (R.read ss)) n new = subst (λ (l : List ℤ). Put old 0 l n new) w p in
       let few = (text_read text ss e).1 in
       let t = reads_table text ss e in
-      reads_as (accepted ss) (Wrote n) new h e (record {
-        result = ap Wrote (put_length old new (encode (R.read ss)) n q (omega arith));
+      reads_as (accepted ss) (Ok n) new h e (record {
+        result = ap Ok (put_length old new (encode (R.read ss)) n q (omega arith));
         words = q.has ∙ sets_over (encode (R.read ss)) old;
         says = t.0;
         table = t.1;
@@ -208,19 +196,19 @@ module _ (text : List ℕ) (old : List ℤ) where
 
 -- ---- uniqueness
 
-refuses_unique : (old : List ℤ) (why : Refusal) (r s : Written) (a b : List ℤ) → Refuses old why r a → Refuses old why s b → (r ≡ s) × (a ≡ b)
+refuses_unique : (old : List ℤ) (why : Refusal) (r s : Result ℕ Refusal) (a b : List ℤ) → Refuses old why r a → Refuses old why s b → (r ≡ s) × (a ≡ b)
 refuses_unique old why r s a b x y = (x.result ∙ sym y.result, x.kept ∙ sym y.kept)
 
-as_unique : (text : List ℕ) (old : List ℤ) (o : Outcome) (r s : Written) (a b : List ℤ) → ReadsAs text old o r a → ReadsAs text old o s b → (r ≡ s) × (a ≡ b)
+as_unique : (text : List ℕ) (old : List ℤ) (o : Outcome) (r s : Result ℕ Refusal) (a b : List ℤ) → ReadsAs text old o r a → ReadsAs text old o s b → (r ≡ s) × (a ≡ b)
 as_unique text old (accepted ss) r s a b x y = (x.result ∙ sym y.result, x.words ∙ sym y.words)
 as_unique text old (refused14 k) r s a b x y = refuses_unique old (OutsideSubset k) r s a b x y
 as_unique text old (refused15 k) r s a b x y = refuses_unique old (BeyondRange k) r s a b x y
 
-first_unique : (t : Bool) (text : List ℕ) (old : List ℤ) (r s : Written) (a b : List ℤ) → ReadsFirst t text old r a → ReadsFirst t text old s b → (r ≡ s) × (a ≡ b)
+first_unique : (t : Bool) (text : List ℕ) (old : List ℤ) (r s : Result ℕ Refusal) (a b : List ℤ) → ReadsFirst t text old r a → ReadsFirst t text old s b → (r ≡ s) × (a ≡ b)
 first_unique true text old r s a b x y = refuses_unique old ShortWords r s a b x y
 first_unique false text old r s a b x y = as_unique text old (read_text text) r s a b x y
 
 -- the text and the old buffer fix the result and the buffer
-pub reads_unique : (text : List ℕ) (old : List ℤ) (r s : Written) (a b : List ℤ) → Reads text old r a → Reads text old s b → (r ≡ s) × (a ≡ b)
+pub reads_unique : (text : List ℕ) (old : List ℤ) (r s : Result ℕ Refusal) (a b : List ℤ) → Reads text old r a → Reads text old s b → (r ≡ s) × (a ≡ b)
 unfolding Reads
 reads_unique text old r s a b x y = first_unique (ltb (length old) 16384) text old r s a b x y

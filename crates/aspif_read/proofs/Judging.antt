@@ -11,6 +11,7 @@ use borrow.Author.Tests.{le-ltb, ltb-true, ltb-false, le-leb}
 use lib.Dec.{leb, ltb}
 use lib.IntN.{ℤ, pos, negsuc, pred_ℤ}
 use lib.ListN.{length, length-append, length-map}
+use Rattle.std.specs.Prelude.{Result, Err}
 use Rattle.meaning.specs.Lists.{Is, ◌∈◌, all}
 use Rattle.meaning.specs.Program.{Element, Aggregate}
 use Rattle.meaning.specs.declared.Function.TheVariants.{Sum}
@@ -27,8 +28,9 @@ use Rattle.aspif_scan.specs.declared.machine.State.{State}
 use Rattle.aspif_scan.specs.Machine.{higher_of}
 use Rattle.aspif_scan.specs.Marks.{row_from, light_from}
 use Rattle.aspif_read.specs.declared.judge.Judged.{Judged}
-use Rattle.aspif_read.specs.declared.judge.Judged.TheVariants as judged
-use Rattle.aspif_read.specs.Survey.{is_whole, weighs, count_of, few_of, own_words, words_of, judged_of}
+use Rattle.aspif_read.specs.declared.judge.Fault.{Fault}
+use Rattle.aspif_read.specs.declared.judge.Fault.TheVariants as fault
+use Rattle.aspif_read.specs.Survey.{is_whole, weighs, count_of, few_of, own_words, words_of, rule_of, judged_of}
 use Rattle.aspif_read.proofs.Leaves.{cap, capped, top_all, within_all, atoms_in, pair_atoms, fine, EndsBy, LowAll, form_atoms}
 use Rattle.aspif_read.proofs.ReadOut.{merged_sorted, sorted_none}
 use Rattle.aspif_read.proofs.StatementRows.{plain_marks, plain_head_lem, plain_positive, plain_negated, plain_elements, plain_light, weights_cons, pair_atoms_of, weigh_marks, weigh_head, weigh_positive, weigh_negated, light_sizes, weigh_elements, weigh_light}
@@ -248,18 +250,18 @@ top_both a b u =
 -- ---- a rule's judgement
 
 judged_by : (s : State) (m : List ℕ) (t : Bool) → is_whole s.stage ≡ true → tested s m ≡ t
-    → judged_of s m ≡ pick t (judged.Rule (words_of (weighs s.stage) m) (weighs s.stage) s.top) judged.Beyond
+    → judged_of s m ≡ pick t (rule_of (words_of (weighs s.stage) m) (weighs s.stage) s.top) (Err fault.Beyond)
 unfolding judged_of
 judged_by s m true e f = rw (e, f)
 judged_by s m false e f = rw (e, f)
 
 -- what the code says of a rule with this head and body
-abbrev pub Judges : List ℕ → Option Body → Judged → Type 0
-Judges h none j = j ≡ judged.Beyond
+abbrev pub Judges : List ℕ → Option Body → Result Judged Fault → Type 0
+Judges h none j = j ≡ Err fault.Beyond
 Judges h (some b) j =
-    j ≡ pick (own_ranges (record { head = h; body = b })) (judged.Rule (own_length (record { head = h; body = b })) (length (body_aggregates b)) (highest (named (record { head = h; body = b })))) judged.Beyond
+    j ≡ pick (own_ranges (record { head = h; body = b })) (rule_of (own_length (record { head = h; body = b })) (length (body_aggregates b)) (highest (named (record { head = h; body = b })))) (Err fault.Beyond)
 
-same_rule : (t : Bool) (w w' a a' p p' : ℕ) → w ≡ w' → a ≡ a' → (Is t → p ≡ p') → pick t (judged.Rule w a p) judged.Beyond ≡ pick t (judged.Rule w' a' p') judged.Beyond
+same_rule : (t : Bool) (w w' a a' p p' : ℕ) → w ≡ w' → a ≡ a' → (Is t → p ≡ p') → pick t (rule_of w a p) (Err fault.Beyond) ≡ pick t (rule_of w' a' p') (Err fault.Beyond)
 same_rule true w w' a a' p p' e f g = rw (e, f, g refl)
 same_rule false w w' a a' p p' e f g = refl
 

@@ -7,6 +7,7 @@ use native.Mathlib.Omega.{arith}
 use borrow.Author.Tests.{leb-true, ne_eqb}
 use lib.Dec.{eqb, leb, ltb}
 use lib.ListN.{length, get_or}
+use Rattle.std.specs.Prelude.{Some, None, Result, Ok, Err}
 use Rattle.meaning.specs.Lists.{cons_if}
 use Rattle.meaning.proofs.Tools.{and_l, and_r}
 use Rattle.text.specs.Text.{pick, runs}
@@ -17,14 +18,14 @@ use Rattle.aspif_scan.specs.declared.machine.Stage.TheVariants.{Rule, Disjunctio
 use Rattle.aspif_scan.specs.declared.machine.State.{State}
 use Rattle.aspif_scan.specs.Marks.{row_from, light_from}
 use Rattle.aspif_scan.specs.Scan.{kind_of}
+use Rattle.results.specs.declared.Refusal.TheVariants.{OutsideSubset}
 use Rattle.aspif_read.specs.declared.judge.Judged.{Judged}
-use Rattle.aspif_read.specs.declared.judge.Judged.TheVariants as judged
+use Rattle.aspif_read.specs.declared.judge.Fault.{Fault}
+use Rattle.aspif_read.specs.declared.judge.Fault.TheVariants as fault
 use Rattle.aspif_read.specs.declared.survey.Totals.{Totals}
-use Rattle.aspif_read.specs.declared.survey.Step.TheVariants as step
-use Rattle.aspif_read.specs.declared.survey.Survey.TheVariants as survey
 use Rattle.aspif_read.specs.Writing.{aggregate_words, rule_words, statement_words, weighed_line, kind_words, line_words, kind_aggregates, line_aggregates}
 use Rattle.aspif_read.proofs.Bounds.{top_low}
-use Rattle.aspif_read.specs.Survey.{is_whole, weighs, count_of, few_of, own_words, words_of, judged_of, state_of, marks_of, judged_line, next_of, with_rule, in_range, Fitting, after_rule, after_kind, after_line, closed_of, survey_from}
+use Rattle.aspif_read.specs.Survey.{is_whole, weighs, count_of, few_of, own_words, words_of, rule_of, judged_of, state_of, marks_of, judged_line, next_of, with_rule, in_range, Fitting, after_rule, after_kind, after_line, refusal_of, closed_of, survey_from}
 
 -- ---- a line's judgement
 
@@ -63,26 +64,25 @@ pub record Fits (s : State) (m : List ℕ) (w a p : ℕ) : Type 0 where
   pub aggregates : weighs s.stage ≡ a
   pub top : s.top ≡ p
 
-pub judged_rule : (s : State) (m : List ℕ) (w a p : ℕ) → judged_of s m ≡ judged.Rule w a p → Fits s m w a p
+pub judged_rule : (s : State) (m : List ℕ) (w a p : ℕ) → judged_of s m ≡ rule_of w a p → Fits s m w a p
 unfolding judged_of
 judged_rule s m w a p = at (is_whole s.stage) refl (s.within && (few_of m && light_from m 1024 256)) refl
   where
-    rule : Judged
-    rule = judged.Rule (words_of (weighs s.stage) m) (weighs s.stage) s.top
-
     at : (x : Bool) → is_whole s.stage ≡ x → (y : Bool) → (s.within && (few_of m && light_from m 1024 256)) ≡ y
-        → pick (not x) judged.Outside (pick (not y) judged.Beyond (judged.Rule (words_of (weighs s.stage) m) (weighs s.stage) s.top)) ≡ judged.Rule w a p → Fits s m w a p
+        → pick (not x) (Err fault.Outside) (pick (not y) (Err fault.Beyond) (rule_of (words_of (weighs s.stage) m) (weighs s.stage) s.top)) ≡ rule_of w a p → Fits s m w a p
     at false e y f q = absurd (let z : ◌≡◌ {A = ℕ} 0 1 = cc in omega arith)
     at true e false f q = absurd (let z : ◌≡◌ {A = ℕ} 0 1 = cc in omega arith)
-    at true e true f q = record {
-      whole = e;
-      within = and_l s.within (few_of m && light_from m 1024 256) f;
-      few = and_l (few_of m) (light_from m 1024 256) (and_r s.within (few_of m && light_from m 1024 256) f);
-      light = and_r (few_of m) (light_from m 1024 256) (and_r s.within (few_of m && light_from m 1024 256) f);
-      words = cc;
-      aggregates = cc;
-      top = cc;
-    }
+    at true e true f q =
+        let r : ◌≡◌ {A = Judged} (record { words = words_of (weighs s.stage) m; aggregates = weighs s.stage; top = s.top }) (record { words = w; aggregates = a; top = p }) = cc in
+        record {
+          whole = e;
+          within = and_l s.within (few_of m && light_from m 1024 256) f;
+          few = and_l (few_of m) (light_from m 1024 256) (and_r s.within (few_of m && light_from m 1024 256) f);
+          light = and_r (few_of m) (light_from m 1024 256) (and_r s.within (few_of m && light_from m 1024 256) f);
+          words = ap (λ (x : Judged). x.words) r;
+          aggregates = ap (λ (x : Judged). x.aggregates) r;
+          top = ap (λ (x : Judged). x.top) r;
+        }
 
 own_few : (o e : ℕ) → e ≤ 64 → own_words o e ≤ 133
 unfolding own_words
@@ -108,38 +108,35 @@ judged_few s m w a p f =
 
 -- ---- after a line
 
-pub next_yes : (u v : Totals) → v ≡ u → in_range v ≡ true → step.Next v ≡ next_of u
-next_yes u v e f = sym (ap (λ (b : Bool). pick b (step.Next v) step.Beyond) f) ∙ ap next_of e
+pub next_yes : (u v : Totals) → v ≡ u → in_range v ≡ true → Ok (Some v) ≡ next_of u
+next_yes u v e f = sym (ap (λ (b : Bool). pick b (Ok (Some v)) (Err fault.Beyond)) f) ∙ ap next_of e
 
-pub next_no : (u v : Totals) → v ≡ u → in_range v ≡ false → step.Beyond ≡ next_of u
-next_no u v e f = sym (ap (λ (b : Bool). pick b (step.Next v) step.Beyond) f) ∙ ap next_of e
+pub next_no : (u v : Totals) → v ≡ u → in_range v ≡ false → Err fault.Beyond ≡ next_of u
+next_no u v e f = sym (ap (λ (b : Bool). pick b (Ok (Some v)) (Err fault.Beyond)) f) ∙ ap next_of e
 
 module _ (t : Totals) (line : List ℕ) where
   pub after_kind_lem : (k : Kind) → kind_of (runs line) ≡ k → after_line t line ≡ after_kind t line k
   unfolding after_line
   after_kind_lem k e = ap (after_kind t line) e
 
-  pub after_rule_lem : (w a p : ℕ) → kind_of (runs line) ≡ kind.Other → judged_line line ≡ judged.Rule w a p → after_line t line ≡ next_of (with_rule t w a p)
-  after_rule_lem w a p e f = after_kind_lem kind.Other e ∙ ap (after_rule t) f
+  pub after_rule_lem : (r : Judged) → kind_of (runs line) ≡ kind.Other → judged_line line ≡ Ok r → after_line t line ≡ next_of (with_rule t r.words r.aggregates r.top)
+  after_rule_lem r e f = after_kind_lem kind.Other e ∙ ap (after_rule t) f
 
-  pub after_beyond : kind_of (runs line) ≡ kind.Other → judged_line line ≡ judged.Beyond → after_line t line ≡ step.Beyond
-  after_beyond e f = after_kind_lem kind.Other e ∙ ap (after_rule t) f
+  pub after_fault : (f : Fault) → kind_of (runs line) ≡ kind.Other → judged_line line ≡ Err f → after_line t line ≡ Err f
+  after_fault f e g = after_kind_lem kind.Other e ∙ ap (after_rule t) g
 
-  pub after_outside : kind_of (runs line) ≡ kind.Other → judged_line line ≡ judged.Outside → after_line t line ≡ step.Outside
-  after_outside e f = after_kind_lem kind.Other e ∙ ap (after_rule t) f
-
-  pub line_rule : (w a p : ℕ) → judged_line line ≡ judged.Rule w a p → Fits (state_of line) (marks_of line) w a p
+  pub line_rule : (w a p : ℕ) → judged_line line ≡ rule_of w a p → Fits (state_of line) (marks_of line) w a p
   unfolding judged_line
   line_rule w a p e = judged_rule (state_of line) (marks_of line) w a p e
 
-  pub line_few : (w a p : ℕ) → judged_line line ≡ judged.Rule w a p → (w ≤ 300) × (a ≤ 1)
+  pub line_few : (w a p : ℕ) → judged_line line ≡ rule_of w a p → (w ≤ 300) × (a ≤ 1)
   line_few w a p e = judged_few (state_of line) (marks_of line) w a p (line_rule w a p e)
 
   -- a table that goes on fits
-  next_fits : (u v : Totals) → u.top ≤ 256 → next_of u ≡ step.Next v → Fitting v
+  next_fits : (u v : Totals) → u.top ≤ 256 → next_of u ≡ Ok (Some v) → Fitting v
   next_fits u v h = at (in_range u) refl
     where
-      at : (b : Bool) → in_range u ≡ b → pick b (step.Next u) step.Beyond ≡ step.Next v → Fitting v
+      at : (b : Bool) → in_range u ≡ b → pick b (Ok (Some u)) (Err fault.Beyond) ≡ Ok (Some v) → Fitting v
       at false e q = absurd (let z : ◌≡◌ {A = ℕ} 0 1 = cc in omega arith)
       at true e q =
           let g : u ≡ v = cc in
@@ -152,17 +149,16 @@ module _ (t : Totals) (line : List ℕ) where
           } in
           subst Fitting g f
 
-  pub after_fits : (v : Totals) → Fitting t → after_line t line ≡ step.Next v → Fitting v
+  pub after_fits : (v : Totals) → Fitting t → after_line t line ≡ Ok (Some v) → Fitting v
   after_fits v f q = by (kind_of (runs line)) refl
     where
-      rule : (j : Judged) → judged_line line ≡ j → after_rule t j ≡ step.Next v → Fitting v
-      rule (judged.Rule w a p) e r =
-          let l = (line_rule w a p e).top in
+      rule : (j : Result Judged Fault) → judged_line line ≡ j → after_rule t j ≡ Ok (Some v) → Fitting v
+      rule (Ok r) e q =
+          let l = (line_rule r.words r.aggregates r.top e).top in
           let h = top_low line in
           let g = f.top in
-          next_fits (with_rule t w a p) v (omega arith) r
-      rule judged.Beyond e r = absurd (let z : ◌≡◌ {A = ℕ} 0 1 = cc in omega arith)
-      rule judged.Outside e r = absurd (let z : ◌≡◌ {A = ℕ} 0 1 = cc in omega arith)
+          next_fits (with_rule t r.words r.aggregates r.top) v (omega arith) q
+      rule (Err w) e q = absurd (let z : ◌≡◌ {A = ℕ} 0 1 = cc in omega arith)
 
       by : (k : Kind) → kind_of (runs line) ≡ k → Fitting v
       by kind.Closing e = absurd (let r = after_kind_lem kind.Closing e in let z : ◌≡◌ {A = ℕ} 0 1 = cc in omega arith)
@@ -170,23 +166,19 @@ module _ (t : Totals) (line : List ℕ) where
       by kind.Other e = rule (judged_line line) refl (sym (after_kind_lem kind.Other e) ∙ q)
 
 module _ (k : ℕ) (t : Totals) (l : List ℕ) (ls : List (List ℕ)) where
-  pub survey_next : (v : Totals) → after_line t l ≡ step.Next v → survey_from k t (l ∷ ls) ≡ survey_from (suc k) v ls
+  pub survey_next : (v : Totals) → after_line t l ≡ Ok (Some v) → survey_from k t (l ∷ ls) ≡ survey_from (suc k) v ls
   unfolding survey_from
   survey_next v e = rw (e, survey_from)
 
-  pub survey_closing : after_line t l ≡ step.Closing → survey_from k t (l ∷ ls) ≡ closed_of (suc k) t ls
+  pub survey_closing : after_line t l ≡ Ok None → survey_from k t (l ∷ ls) ≡ closed_of (suc k) t ls
   unfolding survey_from
   survey_closing e = rw (e, survey_from)
 
-  pub survey_beyond : after_line t l ≡ step.Beyond → survey_from k t (l ∷ ls) ≡ survey.Beyond k
+  pub survey_fault : (f : Fault) → after_line t l ≡ Err f → survey_from k t (l ∷ ls) ≡ Err (refusal_of f k)
   unfolding survey_from
-  survey_beyond e = rw (e, survey_from)
+  survey_fault f e = rw (e, survey_from)
 
-  pub survey_outside : after_line t l ≡ step.Outside → survey_from k t (l ∷ ls) ≡ survey.Outside k
-  unfolding survey_from
-  survey_outside e = rw (e, survey_from)
-
-pub survey_none : (k : ℕ) (t : Totals) → survey_from k t [] ≡ survey.Outside k
+pub survey_none : (k : ℕ) (t : Totals) → survey_from k t [] ≡ Err (OutsideSubset k)
 unfolding survey_from
 survey_none k t = refl
 

@@ -14,7 +14,7 @@ use Rattle.aspif_scan.specs.declared.number.Number.{Number}
 use Rattle.aspif_scan.specs.declared.machine.Stage.{Stage}
 use Rattle.aspif_scan.specs.declared.machine.Stage.TheVariants.{NormalEnd, WeightEnd}
 use Rattle.aspif_scan.specs.declared.machine.State.{State}
-use Rattle.aspif_scan.specs.Number.{number_in}
+use Rattle.aspif_scan.specs.Number.{sized}
 use Rattle.aspif_scan.specs.Machine.{higher_of}
 use Rattle.aspif_scan.specs.Marks.{slot_of, literal_row, add_of}
 use Rattle.aspif_read.specs.Survey.{is_whole, no_marks}
@@ -25,7 +25,7 @@ abbrev pub cap : ℕ → ℕ
 cap n = min n 18446744073709551615
 
 abbrev pub capped : ℤ → Number
-capped z = number_in (some z)
+capped z = sized z
 
 pub cap_is : (n k : ℕ) → k < 18446744073709551615 → eqb (cap n) k ≡ eqb n k
 cap_is n k h = at (eqb n k) refl

@@ -2,7 +2,7 @@
 use mathlib.Core.Path.{◌≡◌, refl, ap, ◌∙◌}
 use mathlib.Core.Bool.{Bool, true, false}
 use mathlib.Core.List.{List, [], ◌∷◌, ◌++◌, append_assoc, append-nil}
-use Prim.Native.Nat.{ℕ, suc, ◌+◌, ◌-◌, ◌<◌, ◌≤◌, min}
+use Prim.Native.Nat.{ℕ, suc, ◌+◌, ◌-◌, ◌<◌, ◌≤◌, max, min}
 use native.Mathlib.Numerals.{add-one}
 use native.Mathlib.Omega.{arith}
 use borrow.Author.Tests.{leb-true, leb-false}
@@ -44,6 +44,15 @@ module _ (text : List ℕ) (i : ℕ) (h : i < length text) where
 
 pub line_none : (text : List ℕ) (i : ℕ) → length text ≤ i → line_length (drop i text) ≡ 0
 line_none text i h = rw (drop_of_length-le text h) length_none
+
+-- past the end, or after a walk to the end
+pub line_past : (text : List ℕ) (from i : ℕ) → length text ≤ i → (from ≤ length text → i ≤ length text) → i + line_length (drop i text) ≡ from + line_length (drop from text)
+    → max from (length text) ≡ from + line_length (drop from text)
+line_past text from i h k e = at (leb from (length text)) refl
+  where
+    at : (b : Bool) → leb from (length text) ≡ b → max from (length text) ≡ from + line_length (drop from text)
+    at true f = let g = leb-true from (length text) f in let j = k g in let n = line_none text i h in omega arith
+    at false f = let g = leb-false from (length text) f in let n = line_none text from (omega arith) in omega arith
 
 lines_newline : (run bs : List ℕ) (b : ℕ) → eqb b 10 ≡ true → lines_from run (b ∷ bs) ≡ run ∷ lines_of bs
 unfolding lines_from

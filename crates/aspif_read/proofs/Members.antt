@@ -2,7 +2,9 @@
 use mathlib.Core.Path.{◌≡◌, refl, sym, ap, ap₂, ◌∙◌, subst}
 use mathlib.Core.Bool.{Bool, true, false, ◌&&◌}
 use mathlib.Core.List.{List, [], ◌∷◌, map}
-use mathlib.Core.Option.{Option, none}
+use mathlib.Core.Option as T
+use mathlib.Core.Option.{none}
+use Rattle.std.specs.Prelude.{Option, Some, None}
 use Prim.Native.Nat.{ℕ, zero, suc, ◌-◌, ◌<◌, ◌≤◌, min}
 use native.Mathlib.Omega.{arith}
 use borrow.Author.Tests.{leb-true, leb-false, ne_eqb}
@@ -23,31 +25,32 @@ use Rattle.aspif_read.proofs.Leaves.{cap, capped, cap_some, st, top_all, within_
 
 -- ---- one number
 
-outside_stays : (s : State) (ns : List Number) → s.stage ≡ Outside → (read_by s ns).stage ≡ Outside
+outside_stays : (s : State) (ns : List (Option Number)) → s.stage ≡ Outside → (read_by s ns).stage ≡ Outside
 unfolding read_by step_of
 outside_stays s [] e = e
-outside_stays s (n ∷ ns) e = outside_stays (step_of s n) ns (ap (λ (x : Stage). (step_at x s n).stage) e)
+outside_stays s (None ∷ ns) e = outside_stays (step_of s None) ns refl
+outside_stays s (Some n ∷ ns) e = outside_stays (step_of s (Some n)) ns (ap (λ (x : Stage). (step_at x s n).stage) e)
 
-not_whole : (s : State) (ns : List Number) → s.stage ≡ Outside → is_whole (read_by s ns).stage ≡ false
+not_whole : (s : State) (ns : List (Option Number)) → s.stage ≡ Outside → is_whole (read_by s ns).stage ≡ false
 not_whole s ns e = ap is_whole (outside_stays s ns e)
 
-pub read_step : (s : State) (n : Number) (ns : List Number) → read_by s (n ∷ ns) ≡ read_by (step_of s n) ns
+pub read_step : (s : State) (n : Option Number) (ns : List (Option Number)) → read_by s (n ∷ ns) ≡ read_by (step_of s n) ns
 unfolding read_by
 read_step s n ns = refl
 
-mark_step : (s : State) (n : Number) (ns : List Number) (m : List ℕ) → marks_by s (n ∷ ns) m ≡ marks_by (step_of s n) ns (mark_of s n m)
+mark_step : (s : State) (n : Option Number) (ns : List (Option Number)) (m : List ℕ) → marks_by s (n ∷ ns) m ≡ marks_by (step_of s n) ns (mark_of s n m)
 unfolding marks_by
 mark_step s n ns m = refl
 
 -- where the next state and marks are known
-agree_on : (o : Option Raw) (s u : State) (n : Number) (ns : List Number) (m k : List ℕ) → step_of s n ≡ u → mark_of s n m ≡ k
+agree_on : (o : T.Option Raw) (s u : State) (n : Option Number) (ns : List (Option Number)) (m k : List ℕ) → step_of s n ≡ u → mark_of s n m ≡ k
     → Agree o (read_by u ns) (marks_by u ns k) → Agree o (read_by s (n ∷ ns)) (marks_by s (n ∷ ns) m)
 agree_on o s u n ns m k e f g =
     let a : read_by s (n ∷ ns) ≡ read_by u ns = read_step s n ns ∙ ap (λ (x : State). read_by x ns) e in
     let b : marks_by s (n ∷ ns) m ≡ marks_by u ns k = mark_step s n ns m ∙ ap₂ (λ (x : State) (y : List ℕ). marks_by x ns y) e f in
     subst (λ (y : List ℕ). Agree o (read_by s (n ∷ ns)) y) (sym b) (subst (λ (x : State). Agree o x (marks_by u ns k)) (sym a) g)
 
-pub agree_off : (s : State) (n : Number) (ns : List Number) → (step_of s n).stage ≡ Outside → is_whole (read_by s (n ∷ ns)).stage ≡ false
+pub agree_off : (s : State) (n : Option Number) (ns : List (Option Number)) → (step_of s n).stage ≡ Outside → is_whole (read_by s (n ∷ ns)).stage ≡ false
 agree_off s n ns e = ap (λ (x : State). is_whole x.stage) (read_step s n ns) ∙ not_whole (step_of s n) ns e
 
 read_nil : (s : State) → read_by s [] ≡ s
@@ -64,21 +67,21 @@ agree_nil s e = ap (λ (x : State). is_whole x.stage) (read_nil s) ∙ e
 -- ---- too many for the numbers that are left
 
 module _ {A : Type 0} where
-  pub atoms_short : (n : ℕ) (next : List ℕ → List ℤ → Option A) (zs : List ℤ) → length zs < n → take_atoms n next zs ≡ none
+  pub atoms_short : (n : ℕ) (next : List ℕ → List ℤ → T.Option A) (zs : List ℤ) → length zs < n → take_atoms n next zs ≡ none
   atoms_short zero next zs h = absurd (omega arith)
   atoms_short (suc n) next [] h = refl
   atoms_short (suc n) next (ℤ.pos zero ∷ zs) h = refl
   atoms_short (suc n) next (ℤ.pos (suc p) ∷ zs) h = atoms_short n (λ l. next (suc p ∷ l)) zs (omega arith)
   atoms_short (suc n) next (negsuc p ∷ zs) h = refl
 
-  pub literals_short : (n : ℕ) (next : List Signed → List ℤ → Option A) (zs : List ℤ) → length zs < n → take_literals n next zs ≡ none
+  pub literals_short : (n : ℕ) (next : List Signed → List ℤ → T.Option A) (zs : List ℤ) → length zs < n → take_literals n next zs ≡ none
   literals_short zero next zs h = absurd (omega arith)
   literals_short (suc n) next [] h = refl
   literals_short (suc n) next (ℤ.pos zero ∷ zs) h = refl
   literals_short (suc n) next (ℤ.pos (suc p) ∷ zs) h = literals_short n (λ l. next (record { plain = true; atom = suc p } ∷ l)) zs (omega arith)
   literals_short (suc n) next (negsuc p ∷ zs) h = literals_short n (λ l. next (record { plain = false; atom = suc p } ∷ l)) zs (omega arith)
 
-  pub pairs_short : (n : ℕ) (next : List Weighed → List ℤ → Option A) (zs : List ℤ) → length zs < n → take_pairs n next zs ≡ none
+  pub pairs_short : (n : ℕ) (next : List Weighed → List ℤ → T.Option A) (zs : List ℤ) → length zs < n → take_pairs n next zs ≡ none
   pairs_short zero next zs h = absurd (omega arith)
   pairs_short (suc n) next [] h = refl
   pairs_short (suc n) next (z ∷ []) h = refl
@@ -87,7 +90,7 @@ module _ {A : Type 0} where
   pairs_short (suc n) next (negsuc p ∷ w ∷ zs) h = refl
 
 -- a list function that fails where the count is too large sees no difference in a count that is held
-pub held_count : (f : ℕ → Option Raw) (k : ℕ) → k < 18446744073709551615 → ((n : ℕ) → k < n → f n ≡ none) → (n : ℕ) → f n ≡ f (cap n)
+pub held_count : (f : ℕ → T.Option Raw) (k : ℕ) → k < 18446744073709551615 → ((n : ℕ) → k < n → f n ≡ none) → (n : ℕ) → f n ≡ f (cap n)
 held_count f k h short n = at (leb n 18446744073709551615) refl
   where
     at : (b : Bool) → leb n 18446744073709551615 ≡ b → f n ≡ f (cap n)
@@ -116,19 +119,19 @@ cap_none : ltb 0 (cap 0) ≡ false
 cap_none = refl
 
 module _ (n a b t : ℕ) (w : Bool) where
-  head_step : (p : ℕ) → step_of (st Head (suc n) a b t w) (capped (pos (suc p))) ≡ st (again Body Head n) n (cap (suc p)) b (higher_of t (cap (suc p))) (w && leb (cap (suc p)) 256)
+  head_step : (p : ℕ) → step_of (st Head (suc n) a b t w) (Some (capped (pos (suc p)))) ≡ st (again Body Head n) n (cap (suc p)) b (higher_of t (cap (suc p))) (w && leb (cap (suc p)) 256)
   unfolding step_of
   head_step p = rw (cap_some p, again_next Body Head n, one_off n)
 
-  literal_step : (p : ℕ) → step_of (st Literal (suc n) a b t w) (capped (pos (suc p))) ≡ st (again NormalEnd Literal n) n (cap (suc p)) b (higher_of t (cap (suc p))) (w && leb (cap (suc p)) 256)
+  literal_step : (p : ℕ) → step_of (st Literal (suc n) a b t w) (Some (capped (pos (suc p)))) ≡ st (again NormalEnd Literal n) n (cap (suc p)) b (higher_of t (cap (suc p))) (w && leb (cap (suc p)) 256)
   unfolding step_of
   literal_step p = rw (cap_some p, again_next NormalEnd Literal n, one_off n)
 
-  negated_step : (p : ℕ) → step_of (st Literal (suc n) a b t w) (capped (negsuc p)) ≡ st (again NormalEnd Literal n) n (cap (suc p)) b (higher_of t (cap (suc p))) (w && leb (cap (suc p)) 256)
+  negated_step : (p : ℕ) → step_of (st Literal (suc n) a b t w) (Some (capped (negsuc p))) ≡ st (again NormalEnd Literal n) n (cap (suc p)) b (higher_of t (cap (suc p))) (w && leb (cap (suc p)) 256)
   unfolding step_of
   negated_step p = rw (cap_some p, again_next NormalEnd Literal n, one_off n)
 
-  pair_step : (p : ℕ) → step_of (st Pair (suc n) a b t w) (capped (pos (suc p))) ≡ st Weight n (cap (suc p)) b (higher_of t (cap (suc p))) (w && leb (cap (suc p)) 256)
+  pair_step : (p : ℕ) → step_of (st Pair (suc n) a b t w) (Some (capped (pos (suc p)))) ≡ st Weight n (cap (suc p)) b (higher_of t (cap (suc p))) (w && leb (cap (suc p)) 256)
   unfolding step_of
   pair_step p = rw (cap_some p, again_next Weight Weight n, same n, one_off n)
     where
@@ -136,50 +139,54 @@ module _ (n a b t : ℕ) (w : Bool) where
       same zero = refl
       same (suc k) = refl
 
-  weight_step : (z : ℤ) → step_of (st Weight n a b t w) (capped z) ≡ st (again WeightEnd Pair n) n a b t (w && fine 65535 z)
+  weight_step : (z : ℤ) → step_of (st Weight n a b t w) (Some (capped z)) ≡ st (again WeightEnd Pair n) n a b t (w && fine 65535 z)
   unfolding step_of
   weight_step (ℤ.pos v) = rw (again_of WeightEnd Pair n)
   weight_step (negsuc v) = rw (again_of WeightEnd Pair n)
 
-  pub bound_step : (z : ℤ) → step_of (st Bound n a b t w) (capped z) ≡ st PairCount n a (min (capped z).size 4194306) t (w && fine 4194305 z)
+  pub bound_step : (z : ℤ) → step_of (st Bound n a b t w) (Some (capped z)) ≡ st PairCount n a (min (capped z).size 4194306) t (w && fine 4194305 z)
   unfolding step_of
   bound_step (ℤ.pos v) = refl
   bound_step (negsuc v) = refl
 
-  pub head_count_step : (k : ℕ) → step_of (st HeadCount n a b t w) (capped (pos k)) ≡ st (again Body Head (cap k)) (cap k) a b t w
+  pub head_count_step : (k : ℕ) → step_of (st HeadCount n a b t w) (Some (capped (pos k))) ≡ st (again Body Head (cap k)) (cap k) a b t w
   unfolding step_of
   head_count_step k = rw (again_of Body Head (cap k))
 
-  pub literal_count_step : (k : ℕ) → step_of (st LiteralCount n a b t w) (capped (pos k)) ≡ st (again NormalEnd Literal (cap k)) (cap k) a b t w
+  pub literal_count_step : (k : ℕ) → step_of (st LiteralCount n a b t w) (Some (capped (pos k))) ≡ st (again NormalEnd Literal (cap k)) (cap k) a b t w
   unfolding step_of
   literal_count_step k = rw (again_of NormalEnd Literal (cap k))
 
-  pub pair_count_step : (k : ℕ) → step_of (st PairCount n a b t w) (capped (pos k)) ≡ st (again WeightEnd Pair (cap k)) (cap k) a b t w
+  pub pair_count_step : (k : ℕ) → step_of (st PairCount n a b t w) (Some (capped (pos k))) ≡ st (again WeightEnd Pair (cap k)) (cap k) a b t w
   unfolding step_of
   pair_count_step k = rw (again_of WeightEnd Pair (cap k))
 
--- the state and the marks after numbers
-abbrev pub Then : Option Raw → State → List ℤ → List ℕ → Type 0
-Then o s zs m = Agree o (read_by s (map capped zs)) (marks_by s (map capped zs) m)
+-- the field that a number stands in
+abbrev pub given : ℤ → Option Number
+given z = Some (capped z)
 
-marks_of_lem : (s : State) (n : Number) (m : List ℕ) → mark_of s n m ≡ mark_at s.stage s.atom n m
+-- the state and the marks after numbers
+abbrev pub Then : T.Option Raw → State → List ℤ → List ℕ → Type 0
+Then o s zs m = Agree o (read_by s (map given zs)) (marks_by s (map given zs) m)
+
+marks_of_lem : (s : State) (n : Number) (m : List ℕ) → mark_of s (Some n) m ≡ mark_at s.stage s.atom n m
 unfolding mark_of
 marks_of_lem s n m = refl
 
 -- a number that is outside where it stands
 pub off : (s : State) (z : ℤ) (zs : List ℤ) (m : List ℕ) → (step_at s.stage s (capped z)).stage ≡ Outside → Then none s (z ∷ zs) m
-off s z zs m e = agree_off s (capped z) (map capped zs) (step_stage s (capped z) ∙ e)
+off s z zs m e = agree_off s (given z) (map given zs) (step_stage s (capped z) ∙ e)
   where
-    step_stage : (s : State) (n : Number) → (step_of s n).stage ≡ (step_at s.stage s n).stage
+    step_stage : (s : State) (n : Number) → (step_of s (Some n)).stage ≡ (step_at s.stage s n).stage
     step_stage s n = unfold step_of in refl
 
-pub on : (o : Option Raw) (s u : State) (z : ℤ) (zs : List ℤ) (m : List ℕ) → step_of s (capped z) ≡ u → Then o u zs (mark_at s.stage s.atom (capped z) m) → Then o s (z ∷ zs) m
-on o s u z zs m e g = agree_on o s u (capped z) (map capped zs) m (mark_at s.stage s.atom (capped z) m) e (marks_of_lem s (capped z) m) g
+pub on : (o : T.Option Raw) (s u : State) (z : ℤ) (zs : List ℤ) (m : List ℕ) → step_of s (given z) ≡ u → Then o u zs (mark_at s.stage s.atom (capped z) m) → Then o s (z ∷ zs) m
+on o s u z zs m e g = agree_on o s u (given z) (map given zs) m (mark_at s.stage s.atom (capped z) m) e (marks_of_lem s (capped z) m) g
 
 pub stop : (s : State) (m : List ℕ) → is_whole s.stage ≡ false → Then none s [] m
 stop s m e = agree_nil s e
 
-pub atoms_agree : (k : ℕ) (next : List ℕ → List ℤ → Option Raw) (a b t : ℕ) (w : Bool) (m : List ℕ) (zs : List ℤ)
+pub atoms_agree : (k : ℕ) (next : List ℕ → List ℤ → T.Option Raw) (a b t : ℕ) (w : Bool) (m : List ℕ) (zs : List ℤ)
     → ((l : List ℕ) (ys : List ℤ) (q : ℕ) → LowAll l → length ys ≤ length zs → Then (next l ys) (st Body 0 q b (top_all t l) (within_all w l)) ys (mark_atoms m l))
     → Then (take_atoms k next zs) (st (again Body Head k) k a b t w) zs m
 atoms_agree zero next a b t w m zs h = h [] zs a tt (omega arith)
@@ -192,7 +199,7 @@ atoms_agree (suc n) next a b t w m (ℤ.pos (suc p) ∷ zs) h =
     (λ l ys q u i. h (suc p ∷ l) ys q (omega arith, u) (omega arith)))
 atoms_agree (suc n) next a b t w m (negsuc p ∷ zs) h = off (st Head (suc n) a b t w) (negsuc p) zs m refl
 
-pub literals_agree : (k : ℕ) (next : List Signed → List ℤ → Option Raw) (a b t : ℕ) (w : Bool) (m : List ℕ) (zs : List ℤ)
+pub literals_agree : (k : ℕ) (next : List Signed → List ℤ → T.Option Raw) (a b t : ℕ) (w : Bool) (m : List ℕ) (zs : List ℤ)
     → ((l : List Signed) (ys : List ℤ) (q : ℕ) → LowAll (atoms_in l) → Then (next l ys) (st NormalEnd 0 q b (top_all t (atoms_in l)) (within_all w (atoms_in l))) ys (mark_literals m l))
     → Then (take_literals k next zs) (st (again NormalEnd Literal k) k a b t w) zs m
 literals_agree zero next a b t w m zs h = h [] zs a tt
@@ -211,7 +218,7 @@ literals_agree (suc n) next a b t w m (negsuc p ∷ zs) h =
     (literals_agree n (λ l. next (x ∷ l)) (cap (suc p)) b (higher_of t (cap (suc p))) (w && leb (cap (suc p)) 256) (add_of m (slot_of 2 (cap (suc p))) 1) zs
     (λ l ys q u. h (x ∷ l) ys q (omega arith, u)))
 
-pub pairs_agree : (k : ℕ) (next : List Weighed → List ℤ → Option Raw) (a b t : ℕ) (w : Bool) (m : List ℕ) (zs : List ℤ)
+pub pairs_agree : (k : ℕ) (next : List Weighed → List ℤ → T.Option Raw) (a b t : ℕ) (w : Bool) (m : List ℕ) (zs : List ℤ)
     → ((l : List Weighed) (ys : List ℤ) (q : ℕ) → LowAll (pair_atoms l) → Then (next l ys) (st WeightEnd 0 q b (top_all t (pair_atoms l)) (within_pairs w l)) ys (mark_pairs m l))
     → Then (take_pairs k next zs) (st (again WeightEnd Pair k) k a b t w) zs m
 pairs_agree zero next a b t w m zs h = h [] zs a tt

@@ -9,27 +9,28 @@ use borrow.Author.Tests.{ne_eqb}
 use lib.Dec.{eqb}
 use lib.IntN.{ℤ, pos, negsuc}
 use lib.ListN.{length}
+use Rattle.std.specs.Prelude as R
 use Rattle.text.specs.Text.{pick, number}
 use Rattle.aspif.specs.Statements.{Signed}
 use Rattle.aspif.specs.Lines.{cons_number, numbers_of, Weighed, plain, weighed, Raw, taking, counted, exactly, take_atoms, take_literals, take_pairs, done, kind_parsed, parsed}
 use Rattle.aspif_scan.specs.declared.number.Number.{Number}
 use Rattle.aspif_scan.specs.declared.machine.Stage.{Stage}
-use Rattle.aspif_scan.specs.declared.machine.Stage.TheVariants.{Rule, Disjunction, HeadCount, Head, Body, LiteralCount, Literal, Bound, PairCount, Pair, Weight, NormalEnd, WeightEnd, Outside}
+use Rattle.aspif_scan.specs.declared.machine.Stage.TheVariants.{Disjunction, HeadCount, Head, Body, LiteralCount, Literal, Bound, PairCount, Pair, NormalEnd, WeightEnd, Outside}
 use Rattle.aspif_scan.specs.declared.machine.State.{State}
-use Rattle.aspif_scan.specs.Number.{no_number, number_in}
+use Rattle.aspif_scan.specs.Number.{number_in}
 use Rattle.aspif_scan.specs.Machine.{plainly, start_of, step_at, step_of, read_by}
 use Rattle.aspif_scan.specs.Marks.{marks_by}
 use Rattle.aspif_scan.specs.Scan.{number_of}
 use Rattle.aspif_read.specs.Survey.{is_whole, no_marks}
 use Rattle.aspif_read.proofs.Leaves.{cap, capped, cap_is, st, top_all, within_all, mark_atoms, atoms_in, mark_literals, pair_atoms, fine, within_pairs, mark_pairs, LowAll, Agree}
-use Rattle.aspif_read.proofs.Members.{read_step, agree_off, atoms_short, literals_short, pairs_short, held_count, again, bound_step, head_count_step, literal_count_step, pair_count_step, Then, off, on, stop, atoms_agree, literals_agree, pairs_agree}
+use Rattle.aspif_read.proofs.Members.{read_step, agree_off, atoms_short, literals_short, pairs_short, held_count, again, bound_step, head_count_step, literal_count_step, pair_count_step, given, Then, off, on, stop, atoms_agree, literals_agree, pairs_agree}
 
 -- ---- the body
 
 body_step : (n l a b t : ℕ) (w : Bool) → step_at Body (st Body l a b t w) (capped (pos n)) ≡ st (pick (eqb n 0) LiteralCount (pick (eqb n 1) Bound Outside)) l a b t w
 body_step n l a b t w = rw (cap_is n 0 (omega arith), cap_is n 1 (omega arith))
 
-step_is : (s : State) (n : Number) → step_of s n ≡ step_at s.stage s n
+step_is : (s : State) (n : Number) → step_of s (R.Some n) ≡ step_at s.stage s n
 unfolding step_of
 step_is s n = refl
 
@@ -139,35 +140,23 @@ parsed_agree (negsuc n ∷ zs) i = off start_of (negsuc n) zs no_marks refl
 
 -- ---- fields
 
-some_numbers : (fs : List (List ℕ)) (zs : List ℤ) → numbers_of fs ≡ some zs → (map number_of fs ≡ map capped zs) × (length zs ≡ length fs)
-some_numbers [] zs e = let q : zs ≡ [] = cc in (sym (ap (map capped) q), ap length q)
+some_numbers : (fs : List (List ℕ)) (zs : List ℤ) → numbers_of fs ≡ some zs → (map number_of fs ≡ map given zs) × (length zs ≡ length fs)
+some_numbers [] zs e = let q : zs ≡ [] = cc in (sym (ap (map given) q), ap length q)
 some_numbers (f ∷ fs) zs e = at (number f) refl (numbers_of fs) refl (λ ys g. some_numbers fs ys g)
   where
     at : (o : Option ℤ) → number f ≡ o → (r : Option (List ℤ)) → numbers_of fs ≡ r
-        → ((ys : List ℤ) → numbers_of fs ≡ some ys → (map number_of fs ≡ map capped ys) × (length ys ≡ length fs)) → (map number_of (f ∷ fs) ≡ map capped zs) × (length zs ≡ suc (length fs))
+        → ((ys : List ℤ) → numbers_of fs ≡ some ys → (map number_of fs ≡ map given ys) × (length ys ≡ length fs)) → (map number_of (f ∷ fs) ≡ map given zs) × (length zs ≡ suc (length fs))
     at none d r g k = absurd (let q : cons_number none r ≡ some zs = cc in let z : ◌≡◌ {A = ℕ} 0 1 = cc in omega arith)
     at (some z) d none g k = absurd (let q : cons_number (some z) none ≡ some zs = cc in let z : ◌≡◌ {A = ℕ} 0 1 = cc in omega arith)
     at (some z) d (some ys) g k =
         let q : some (z ∷ ys) ≡ some zs = cc in
         let p : z ∷ ys ≡ zs = cc in
         let t = k ys g in
-        (ap₂ (λ (x : Number) (l : List Number). x ∷ l) (ap number_in d) t.0 ∙ ap (map capped) p, ap length (sym p) ∙ ap suc t.1)
+        (ap₂ (λ (x : R.Option Number) (l : List (R.Option Number)). x ∷ l) (ap number_in d) t.0 ∙ ap (map given) p, ap length (sym p) ∙ ap suc t.1)
 
-bad_step : (x : Stage) (s : State) → (step_at x s no_number).stage ≡ Outside
-bad_step Rule s = refl
-bad_step Disjunction s = refl
-bad_step HeadCount s = refl
-bad_step Head s = refl
-bad_step Body s = refl
-bad_step LiteralCount s = refl
-bad_step Literal s = refl
-bad_step Bound s = refl
-bad_step PairCount s = refl
-bad_step Pair s = refl
-bad_step Weight s = refl
-bad_step NormalEnd s = refl
-bad_step WeightEnd s = refl
-bad_step Outside s = refl
+none_step : (s : State) → (step_of s R.None).stage ≡ Outside
+unfolding step_of
+none_step s = refl
 
 no_numbers : (fs : List (List ℕ)) (s : State) → numbers_of fs ≡ none → is_whole (read_by s (map number_of fs)).stage ≡ false
 no_numbers [] s e = absurd (let z : ◌≡◌ {A = ℕ} 0 1 = cc in omega arith)
@@ -175,7 +164,7 @@ no_numbers (f ∷ fs) s e = at (number f) refl (numbers_of fs) refl (λ u g. no_
   where
     at : (o : Option ℤ) → number f ≡ o → (r : Option (List ℤ)) → numbers_of fs ≡ r → ((u : State) → numbers_of fs ≡ none → is_whole (read_by u (map number_of fs)).stage ≡ false)
         → is_whole (read_by s (map number_of (f ∷ fs))).stage ≡ false
-    at none d r g k = agree_off s (number_of f) (map number_of fs) (ap (λ (n : Number). (step_of s n).stage) (ap number_in d) ∙ ap (λ (x : State). x.stage) (step_is s no_number) ∙ bad_step s.stage s)
+    at none d r g k = agree_off s (number_of f) (map number_of fs) (ap (λ (n : R.Option Number). (step_of s n).stage) (ap number_in d) ∙ none_step s)
     at (some z) d none g k = ap (λ (x : State). is_whole x.stage) (read_step s (number_of f) (map number_of fs)) ∙ k (step_of s (number_of f)) g
     at (some z) d (some ys) g k = absurd (let q : cons_number (some z) (some ys) ≡ none = cc in let z : ◌≡◌ {A = ℕ} 0 1 = cc in omega arith)
 
@@ -192,4 +181,4 @@ fields_agree fs i = at (numbers_of fs) refl
     at (some zs) e =
         let t = some_numbers fs zs e in
         let l = t.1 in
-        subst (λ (ns : List Number). Agree (parsed zs) (read_by start_of ns) (marks_by start_of ns no_marks)) (sym t.0) (parsed_agree zs (omega arith))
+        subst (λ (ns : List (R.Option Number)). Agree (parsed zs) (read_by start_of ns) (marks_by start_of ns no_marks)) (sym t.0) (parsed_agree zs (omega arith))

@@ -1,14 +1,14 @@
 -- The marks that a statement leaves, cell by cell, and that the rows read out are the sorted and merged lists of `Reading`. Assumes nothing.
 use mathlib.Core.Path.{◌≡◌, refl, sym, ap, ◌∙◌}
-use mathlib.Core.Logic.{◌≢◌}
 use mathlib.Core.Bool.{Bool, true, false, ◌||◌, not}
 use mathlib.Core.List.{List, [], ◌∷◌}
 use Prim.Native.Nat.{ℕ, zero, suc, ◌+◌, ◌*◌, ◌-◌, ◌<◌, ◌≤◌, min}
 use native.Mathlib.Omega.{arith}
-use borrow.Author.Tests.{lt-ltb, le-ltb, ltb-true, ltb-false, le-leb, lt-leb, leb-true, leb-false, eqb-true, eqb-false, ne_eqb}
+use borrow.Author.Tests.{lt-ltb, le-ltb, ltb-true, ltb-false, leb-true, leb-false, eqb-true, eqb-false, ne_eqb}
 use lib.Dec.{eqb, leb, ltb}
-use lib.ListN.{length, get_or, set, length-set, length-replicate}
+use lib.ListN.{length, get_or, length-set, length-replicate}
 use lib.Seq.{get_or-set_same, get_or-set_other}
+use Rattle.std.specs.Prelude.{Option, Some, None}
 use Rattle.meaning.specs.Lists.{cons_if, has}
 use Rattle.text.specs.Text.{pick}
 use Rattle.aspif.specs.Statements.{Signed, positives, negateds}
@@ -29,63 +29,56 @@ pub record Sound (m : List ℕ) : Type 0 where
   pub long : length m ≡ 1280
   pub low : Capped m
 
-module _ (m : List ℕ) (i a : ℕ) where
-  add_in : i < 1280 → add_of m i a ≡ set m i (min (get_or m i 0 + a) 65536)
-  unfolding add_of
-  add_in h = rw (lt-leb 1280 i h)
+add_long : (m : List ℕ) (slot : Option ℕ) (a : ℕ) → length (add_of m slot a) ≡ length m
+unfolding add_of
+add_long m None a = refl
+add_long m (Some i) a = length-set m i (min (get_or m i 0 + a) 65536)
 
-  add_out : 1280 ≤ i → add_of m i a ≡ m
-  unfolding add_of
-  add_out h = rw (le-leb 1280 i h)
+add_sound : (m : List ℕ) (slot : Option ℕ) (a : ℕ) → Sound m → Sound (add_of m slot a)
+add_sound m slot a s = record { long = add_long m slot a ∙ s.long; low = add_capped m slot a s.low }
 
-  add_long : length (add_of m i a) ≡ length m
-  add_long = at (ltb i 1280) refl
-    where
-      at : (b : Bool) → ltb i 1280 ≡ b → length (add_of m i a) ≡ length m
-      at true e = ap length (add_in (ltb-true i 1280 e)) ∙ length-set m i (min (get_or m i 0 + a) 65536)
-      at false e = ap length (add_out (ltb-false i 1280 e))
+add_same : (m : List ℕ) (i a : ℕ) → length m ≡ 1280 → i < 1280 → get_or (add_of m (Some i) a) i 0 ≡ min (get_or m i 0 + a) 65536
+unfolding add_of
+add_same m i a l h = get_or-set_same m i (min (get_or m i 0 + a) 65536) 0 (omega arith)
 
-  add_sound : Sound m → Sound (add_of m i a)
-  add_sound s = record { long = add_long ∙ s.long; low = add_capped m i a s.low }
-
-  add_same : length m ≡ 1280 → i < 1280 → get_or (add_of m i a) i 0 ≡ min (get_or m i 0 + a) 65536
-  add_same l h = ap (λ (x : List ℕ). get_or x i 0) (add_in h) ∙ get_or-set_same m i (min (get_or m i 0 + a) 65536) 0 (omega arith)
-
-  add_other : (j : ℕ) → j ≢ i → get_or (add_of m i a) j 0 ≡ get_or m j 0
-  add_other j n = at (ltb i 1280) refl
-    where
-      at : (b : Bool) → ltb i 1280 ≡ b → get_or (add_of m i a) j 0 ≡ get_or m j 0
-      at true e = ap (λ (x : List ℕ). get_or x j 0) (add_in (ltb-true i 1280 e)) ∙ get_or-set_other m i j (min (get_or m i 0 + a) 65536) 0 n
-      at false e = ap (λ (x : List ℕ). get_or x j 0) (add_out (ltb-false i 1280 e))
+add_other : (m : List ℕ) (slot : Option ℕ) (a j : ℕ) → (Some j ≡ slot → ⊥) → get_or (add_of m slot a) j 0 ≡ get_or m j 0
+unfolding add_of
+add_other m None a j n = refl
+add_other m (Some i) a j n = get_or-set_other m i j (min (get_or m i 0 + a) 65536) 0 (λ e. n (ap Some e))
 
 -- ---- slots
 
-slot_in : (row q : ℕ) → 1 ≤ q → q ≤ 256 → slot_of row (cap q) ≡ idx row q
+slot_in : (row q : ℕ) → 1 ≤ q → q ≤ 256 → slot_of row (cap q) ≡ Some (idx row q)
 unfolding slot_of
 slot_in row q h k =
     let e : cap q ≡ q = omega arith in
     rw (e, ne_eqb q 0 (λ z. omega arith), le-ltb 256 q k)
 
-slot_none : (row : ℕ) → slot_of row (cap 0) ≡ 1280
+slot_none : (row : ℕ) → slot_of row (cap 0) ≡ None
 unfolding slot_of
 slot_none row = refl
 
-slot_over : (row q : ℕ) → 256 < q → slot_of row (cap q) ≡ 1280
+slot_over : (row q : ℕ) → 256 < q → slot_of row (cap q) ≡ None
 unfolding slot_of
 slot_over row q h = rw (ne_eqb (cap q) 0 (λ z. omega arith), lt-ltb 256 (cap q) (omega arith))
 
-slot_apart : (row other p q : ℕ) → row < 5 → other < 5 → 1 ≤ p → p ≤ 256 → (row ≡ other → p ≡ q → ⊥) → idx other p ≢ slot_of row (cap q)
-slot_apart row other p zero r o h k n e = let s = slot_none row in omega arith
+slot_apart : (row other p q : ℕ) → row < 5 → other < 5 → 1 ≤ p → p ≤ 256 → (row ≡ other → p ≡ q → ⊥) → Some (idx other p) ≡ slot_of row (cap q) → ⊥
+slot_apart row other p zero r o h k n e =
+    let s = e ∙ slot_none row in
+    absurd (let z : ◌≡◌ {A = ℕ} 0 1 = cc in omega arith)
 slot_apart row other p (suc q) r o h k n e = at (leb (suc q) 256) refl
   where
     at : (b : Bool) → leb (suc q) 256 ≡ b → ⊥
     at true f =
-        let s = slot_in row (suc q) (omega arith) (leb-true (suc q) 256 f) in
+        let s = e ∙ slot_in row (suc q) (omega arith) (leb-true (suc q) 256 f) in
+        let i : idx other p ≡ idx row (suc q) = cc in
         let g = leb-true (suc q) 256 f in
         let a : row ≡ other = omega arith in
         let b : p ≡ suc q = omega arith in
         n a b
-    at false f = let s = slot_over row (suc q) (leb-false (suc q) 256 f) in omega arith
+    at false f =
+        let s = e ∙ slot_over row (suc q) (leb-false (suc q) 256 f) in
+        absurd (let z : ◌≡◌ {A = ℕ} 0 1 = cc in omega arith)
 
 module _ (m : List ℕ) (s : Sound m) (row p : ℕ) (r : row < 5) (h : 1 ≤ p) (k : p ≤ 256) (q a : ℕ) where
   hit : get_or (add_of m (slot_of row (cap q)) a) (idx row p) 0 ≡ min (get_or m (idx row p) 0 + pick (eqb p q) a 0) 65536
@@ -94,7 +87,7 @@ module _ (m : List ℕ) (s : Sound m) (row p : ℕ) (r : row < 5) (h : 1 ≤ p) 
       at : (b : Bool) → eqb p q ≡ b → get_or (add_of m (slot_of row (cap q)) a) (idx row p) 0 ≡ min (get_or m (idx row p) 0 + pick b a 0) 65536
       at true e =
           let f = eqb-true p q e in
-          let g : slot_of row (cap q) ≡ idx row p = rw (← f) (slot_in row p h k) in
+          let g : slot_of row (cap q) ≡ Some (idx row p) = rw (← f) (slot_in row p h k) in
           rw g (add_same m (idx row p) a s.long (omega arith))
       at false e =
           let l = s.low (idx row p) in

@@ -8,6 +8,10 @@ use native.Mathlib.Omega.{arith}
 use lib.Dec.{leb}
 use lib.IntN.{ℤ, pos}
 use lib.ListN.{length, length-append}
+use Rattle.std.specs.Prelude as R
+use Rattle.std.specs.Prelude.{Result, Ok, Err}
+use Rattle.results.specs.declared.Refusal.{Refusal}
+use Rattle.results.specs.declared.Refusal.TheVariants.{OutsideSubset, BeyondRange}
 use Rattle.meaning.specs.Foundedness.{same_list}
 use Rattle.meaning.specs.Program.{Aggregate}
 use Rattle.table.specs.Contents.{NumberedRule, Each, encode, encode_all, encode_aggregate, encode_rule}
@@ -21,14 +25,11 @@ use Rattle.aspif.proofs.Back.{aggregates_append, rules_append, all_length, encod
 use Rattle.aspif_scan.specs.declared.kind.Kind.TheVariants as kind
 use Rattle.aspif_scan.specs.Scan.{kind_of, numbers_in}
 use Rattle.aspif_read.specs.declared.judge.Judged.{Judged}
-use Rattle.aspif_read.specs.declared.judge.Judged.TheVariants as judged
+use Rattle.aspif_read.specs.declared.judge.Fault.{Fault}
+use Rattle.aspif_read.specs.declared.judge.Fault.TheVariants as fault
 use Rattle.aspif_read.specs.declared.survey.Totals.{Totals}
-use Rattle.aspif_read.specs.declared.survey.Step.{Step}
-use Rattle.aspif_read.specs.declared.survey.Step.TheVariants as step
-use Rattle.aspif_read.specs.declared.survey.Survey.{Survey}
-use Rattle.aspif_read.specs.declared.survey.Survey.TheVariants as survey
-use Rattle.aspif_read.specs.Survey.{is_whole, state_of, marks_of, judged_of, judged_line, with_rule, in_range, next_of, after_line, closed_of, survey_from}
-use Rattle.aspif_read.proofs.Laws.{after_kind_lem, after_rule_lem, after_beyond, after_outside, survey_next, survey_closing, survey_beyond, survey_outside}
+use Rattle.aspif_read.specs.Survey.{is_whole, state_of, marks_of, rule_of, judged_of, judged_line, with_rule, in_range, next_of, after_line, closed_of, survey_from}
+use Rattle.aspif_read.proofs.Laws.{after_kind_lem, after_rule_lem, after_fault, survey_next, survey_closing, survey_fault}
 use Rattle.aspif_read.proofs.Leaves.{Agree}
 use Rattle.aspif_read.proofs.Parsing.{AgreeFields, fields_agree}
 use Rattle.aspif_read.proofs.Judging.{own_ranges, rule_length, own_length, highest_append, Judges, form_judged}
@@ -101,22 +102,22 @@ range_is us = assoc (leb (length (aggregates_of us)) 64) (leb (length us) 1024) 
 
 -- ---- one line
 
-abbrev StepsRule : List Statement → Option Statement → Step → Type 0
-StepsRule ss (some s) t = t ≡ step.Next (totals_of (ss ++ (s ∷ [])))
-StepsRule ss none t = t ≡ step.Beyond
+abbrev StepsRule : List Statement → Option Statement → Result (R.Option Totals) Fault → Type 0
+StepsRule ss (some s) t = t ≡ Ok (R.Some (totals_of (ss ++ (s ∷ []))))
+StepsRule ss none t = t ≡ Err fault.Beyond
 
-abbrev StepsAs : List Statement → Line → Step → Type 0
-StepsAs ss closing t = t ≡ step.Closing
-StepsAs ss comment t = t ≡ step.Next (totals_of ss)
+abbrev StepsAs : List Statement → Line → Result (R.Option Totals) Fault → Type 0
+StepsAs ss closing t = t ≡ Ok R.None
+StepsAs ss comment t = t ≡ Ok (R.Some (totals_of ss))
 StepsAs ss (rule r) t = StepsRule ss (ranged ss r) t
-StepsAs ss outside t = t ≡ step.Outside
+StepsAs ss outside t = t ≡ Err fault.Outside
 
 pub ranges_split : (ss : List Statement) (s : Statement) → in_ranges ss s ≡ (own_ranges s && table_ranges (ss ++ (s ∷ [])))
 unfolding in_ranges
 ranges_split ss s = refl
 
 module _ (ss : List Statement) (l : List ℕ) (short : length l ≤ 18446744073709551615) where
-  judged_outside : is_whole (state_of l).stage ≡ false → judged_line l ≡ judged.Outside
+  judged_outside : is_whole (state_of l).stage ≡ false → judged_line l ≡ Err fault.Outside
   unfolding judged_line judged_of
   judged_outside e = rw e
 
@@ -129,7 +130,7 @@ module _ (ss : List Statement) (l : List ℕ) (short : length l ≤ 184467440737
   agreed = let f = runs_few [] l in fields_agree (runs l) (omega arith)
 
   rule_step : (h : List ℕ) (o : Option Body) → kind_of (runs l) ≡ kind.Other → Judges h o (judged_line l) → StepsRule ss (ranged_as ss h o) (after_line (totals_of ss) l)
-  rule_step h none e j = after_beyond (totals_of ss) l e j
+  rule_step h none e j = after_fault (totals_of ss) l fault.Beyond e j
   rule_step h (some b) e j = at (own_ranges s) refl (table_ranges (ss ++ (s ∷ []))) refl
     where
       s : Statement
@@ -140,12 +141,12 @@ module _ (ss : List Statement) (l : List ℕ) (short : length l ≤ 184467440737
       at false f y g =
           let st : Statement = record { head = h; body = b } in
           let q : in_ranges ss st ≡ false = ranges_split ss st ∙ ap (λ (t : Bool). t && table_ranges (ss ++ (st ∷ []))) f in
-          let d : judged_line l ≡ judged.Beyond = j ∙ (rw f) in
-          rw q (after_beyond (totals_of ss) l e d)
+          let d : judged_line l ≡ Err fault.Beyond = j ∙ (rw f) in
+          rw q (after_fault (totals_of ss) l fault.Beyond e d)
       at true f y g =
           let st : Statement = record { head = h; body = b } in
-          let d : judged_line l ≡ judged.Rule (own_length st) (length (body_aggregates b)) (highest (named st)) = j ∙ (rw f) in
-          let n = after_rule_lem (totals_of ss) l _ _ _ e d ∙ ap next_of (totals_next ss st) in
+          let d : judged_line l ≡ rule_of (own_length st) (length (body_aggregates b)) (highest (named st)) = j ∙ (rw f) in
+          let n = after_rule_lem (totals_of ss) l _ e d ∙ ap next_of (totals_next ss st) in
           let q : in_ranges ss st ≡ y = ranges_split ss st ∙ ap₂ (λ (t u : Bool). t && u) f g in
           last y (range_is (ss ++ (st ∷ [])) ∙ g) n q
         where
@@ -156,19 +157,19 @@ module _ (ss : List Statement) (l : List ℕ) (short : length l ≤ 184467440737
           last false r n q = rw q (n ∙ (rw r))
 
   fields_step : (o : Option (List ℤ)) → kind_of (runs l) ≡ kind.Other → AgreeFields o (state_of l) (marks_of l) → StepsAs ss (parsed_line o) (after_line (totals_of ss) l)
-  fields_step none e g = after_outside (totals_of ss) l e (judged_outside g)
+  fields_step none e g = after_fault (totals_of ss) l fault.Outside e (judged_outside g)
   fields_step (some zs) e g = at (parsed zs) refl
     where
       at : (o : Option Raw) → parsed zs ≡ o → StepsAs ss (parsed_line (some zs)) (after_line (totals_of ss) l)
       at none f =
           let w : is_whole (state_of l).stage ≡ false = subst (λ (p : Option Raw). Agree p (state_of l) (marks_of l)) f g in
           let q : parsed_line (some zs) ≡ outside = rw (f, parsed_line) in
-          subst (λ (x : Line). StepsAs ss x (after_line (totals_of ss) l)) (sym q) (after_outside (totals_of ss) l e (judged_outside w))
+          subst (λ (x : Line). StepsAs ss x (after_line (totals_of ss) l)) (sym q) (after_fault (totals_of ss) l fault.Outside e (judged_outside w))
       at (some r) f =
           let w : Agree (some r) (state_of l) (marks_of l) = subst (λ (p : Option Raw). Agree p (state_of l) (marks_of l)) f g in
           let q : parsed_line (some zs) ≡ rule r = rw (f, parsed_line) in
           let j = form_judged r.head r.form (state_of l) (marks_of l) w.0 w.1 w.2 in
-          let j' : Judges r.head (form_in r.form) (judged_line l) = subst (λ (x : Judged). Judges r.head (form_in r.form) x) judged_as j in
+          let j' : Judges r.head (form_in r.form) (judged_line l) = subst (λ (x : Result Judged Fault). Judges r.head (form_in r.form) x) judged_as j in
           subst (λ (x : Line). StepsAs ss x (after_line (totals_of ss) l)) (sym q) (ranged_step r (rule_step r.head (form_in r.form) e j'))
         where
           ranged_step : (r : Raw) → StepsRule ss (ranged_as ss r.head (form_in r.form)) (after_line (totals_of ss) l) → StepsRule ss (ranged ss r) (after_line (totals_of ss) l)
@@ -184,10 +185,10 @@ module _ (ss : List Statement) (l : List ℕ) (short : length l ≤ 184467440737
 
 -- ---- all lines
 
-abbrev pub surveyed : Outcome → Survey
-surveyed (accepted us) = survey.Table (totals_of us)
-surveyed (refused14 k) = survey.Outside k
-surveyed (refused15 k) = survey.Beyond k
+abbrev pub surveyed : Outcome → Result Totals Refusal
+surveyed (accepted us) = Ok (totals_of us)
+surveyed (refused14 k) = Err (OutsideSubset k)
+surveyed (refused15 k) = Err (BeyondRange k)
 
 abbrev pub Short : List (List ℕ) → Type 0
 Short ls = Each (λ (l : List ℕ). length l ≤ 18446744073709551615) ls
@@ -211,6 +212,6 @@ survey_agree (l ∷ ls) k ss u = at (line_of l) refl (line_steps ss l u.0) (λ t
     at (rule w) e s r = two (ranged ss w) refl s
       where
         two : (o : Option Statement) → ranged ss w ≡ o → StepsRule ss o (after_line (totals_of ss) l) → survey_from k (totals_of ss) (l ∷ ls) ≡ surveyed (read_lines k ss (l ∷ ls))
-        two none f t = survey_beyond k (totals_of ss) l ls t ∙ sym (ap surveyed (lines_beyond k ss l ls w e f))
+        two none f t = survey_fault k (totals_of ss) l ls fault.Beyond t ∙ sym (ap surveyed (lines_beyond k ss l ls w e f))
         two (some q) f t = survey_next k (totals_of ss) l ls (totals_of (ss ++ (q ∷ []))) t ∙ r (ss ++ (q ∷ [])) ∙ sym (ap surveyed (lines_rule k ss l ls w q e f))
-    at outside e s r = survey_outside k (totals_of ss) l ls s ∙ sym (ap surveyed (lines_outside k ss l ls e))
+    at outside e s r = survey_fault k (totals_of ss) l ls fault.Outside s ∙ sym (ap surveyed (lines_outside k ss l ls e))

@@ -4,7 +4,7 @@
 --   after_line     the table so far after one line more
 --   survey_from    the table of all lines, or the line of a refusal
 -- Assumes nothing.
-use Rattle.std.specs.Prelude.{Bool, true, false, ◌&&◌, not, List, [], ◌∷◌, ℕ, suc, ◌+◌, ◌*◌, ◌≤◌, max, eqb, leb, length, replicate}
+use Rattle.std.specs.Prelude.{Bool, true, false, ◌&&◌, not, List, [], ◌∷◌, ℕ, suc, ◌+◌, ◌*◌, ◌≤◌, max, eqb, leb, length, replicate, Option, Some, None, Result, Ok, Err}
 use Rattle.text.specs.Text.{pick, runs}
 use Rattle.aspif_scan.specs.declared.machine.Stage.{Stage}
 use Rattle.aspif_scan.specs.declared.machine.Stage.TheVariants.{Rule, Disjunction, HeadCount, Head, Body, LiteralCount, Literal, Bound, PairCount, Pair, Weight, NormalEnd, WeightEnd, Outside}
@@ -14,13 +14,12 @@ use Rattle.aspif_scan.specs.declared.kind.Kind.TheVariants as kind
 use Rattle.aspif_scan.specs.Machine.{start_of, read_by}
 use Rattle.aspif_scan.specs.Marks.{marks_by, row_from, light_from}
 use Rattle.aspif_scan.specs.Scan.{kind_of, numbers_in}
+use Rattle.results.specs.declared.Refusal.{Refusal}
+use Rattle.results.specs.declared.Refusal.TheVariants.{OutsideSubset, BeyondRange}
 use Rattle.aspif_read.specs.declared.judge.Judged.{Judged}
-use Rattle.aspif_read.specs.declared.judge.Judged.TheVariants as judged
+use Rattle.aspif_read.specs.declared.judge.Fault.{Fault}
+use Rattle.aspif_read.specs.declared.judge.Fault.TheVariants as fault
 use Rattle.aspif_read.specs.declared.survey.Totals.{Totals}
-use Rattle.aspif_read.specs.declared.survey.Step.{Step}
-use Rattle.aspif_read.specs.declared.survey.Step.TheVariants as step
-use Rattle.aspif_read.specs.declared.survey.Survey.{Survey}
-use Rattle.aspif_read.specs.declared.survey.Survey.TheVariants as survey
 
 -- 10 is a newline
 unfoldable pub line_length : List ℕ → ℕ
@@ -78,9 +77,13 @@ own_words own elements = pick (eqb own 0) 0 (5 + 2 * elements)
 abbrev pub words_of : ℕ → List ℕ → ℕ
 words_of own m = 4 + count_of m 0 + count_of m 1 + count_of m 2 + own_words own (count_of m 3)
 
-unfoldable pub judged_of : State → List ℕ → Judged
+-- a rule with so many words and aggregates, and this highest atom
+abbrev pub rule_of : ℕ → ℕ → ℕ → Result Judged Fault
+rule_of w a p = Ok (record { words = w; aggregates = a; top = p })
+
+unfoldable pub judged_of : State → List ℕ → Result Judged Fault
 judged_of s m =
-    pick (not (is_whole s.stage)) judged.Outside (pick (not (s.within && (few_of m && light_from m 1024 256))) judged.Beyond (judged.Rule (words_of (weighs s.stage) m) (weighs s.stage) s.top))
+    pick (not (is_whole s.stage)) (Err fault.Outside) (pick (not (s.within && (few_of m && light_from m 1024 256))) (Err fault.Beyond) (rule_of (words_of (weighs s.stage) m) (weighs s.stage) s.top))
 
 abbrev pub state_of : List ℕ → State
 state_of line = read_by start_of (numbers_in line)
@@ -88,7 +91,7 @@ state_of line = read_by start_of (numbers_in line)
 abbrev pub marks_of : List ℕ → List ℕ
 marks_of line = marks_by start_of (numbers_in line) no_marks
 
-unfoldable pub judged_line : List ℕ → Judged
+unfoldable pub judged_line : List ℕ → Result Judged Fault
 judged_line line = judged_of (state_of line) (marks_of line)
 
 -- ---- the table so far
@@ -109,34 +112,37 @@ pub record Fitting (t : Totals) : Type 0 where
   pub rules : t.rules ≤ 1024
   pub top : t.top ≤ 256
 
-abbrev pub next_of : Totals → Step
-next_of t = pick (in_range t) (step.Next t) step.Beyond
+abbrev pub next_of : Totals → Result (Option Totals) Fault
+next_of t = pick (in_range t) (Ok (Some t)) (Err fault.Beyond)
 
-abbrev pub after_rule : Totals → Judged → Step
-after_rule t (judged.Rule words aggregates top) = next_of (with_rule t words aggregates top)
-after_rule t judged.Beyond = step.Beyond
-after_rule t judged.Outside = step.Outside
+abbrev pub after_rule : Totals → Result Judged Fault → Result (Option Totals) Fault
+after_rule t (Ok r) = next_of (with_rule t r.words r.aggregates r.top)
+after_rule t (Err f) = Err f
 
-abbrev pub after_kind : Totals → List ℕ → Kind → Step
-after_kind t line kind.Closing = step.Closing
-after_kind t line kind.Comment = step.Next t
+-- the closing 0 has no table after it
+abbrev pub after_kind : Totals → List ℕ → Kind → Result (Option Totals) Fault
+after_kind t line kind.Closing = Ok None
+after_kind t line kind.Comment = Ok (Some t)
 after_kind t line kind.Other = after_rule t (judged_line line)
 
-unfoldable pub after_line : Totals → List ℕ → Step
+unfoldable pub after_line : Totals → List ℕ → Result (Option Totals) Fault
 after_line t line = after_kind t line (kind_of (runs line))
 
+-- the refusal of line k
+abbrev pub refusal_of : Fault → ℕ → Refusal
+refusal_of fault.Beyond k = BeyondRange k
+refusal_of fault.Outside k = OutsideSubset k
+
 -- nothing may follow the closing 0
-abbrev pub closed_of : ℕ → Totals → List (List ℕ) → Survey
-closed_of k t [] = survey.Table t
-closed_of k t (l ∷ ls) = survey.Outside k
+abbrev pub closed_of : ℕ → Totals → List (List ℕ) → Result Totals Refusal
+closed_of k t [] = Ok t
+closed_of k t (l ∷ ls) = Err (OutsideSubset k)
 
 -- the lines from line k on
-unfoldable pub survey_from : ℕ → Totals → List (List ℕ) → Survey
-survey_from k t [] = survey.Outside k
+unfoldable pub survey_from : ℕ → Totals → List (List ℕ) → Result Totals Refusal
+survey_from k t [] = Err (OutsideSubset k)
 survey_from k t (l ∷ ls) =
     elim (after_line t l) [
-      | step.Next next ↦ survey_from (suc k) next ls
-      | step.Closing ↦ closed_of (suc k) t ls
-      | step.Beyond ↦ survey.Beyond k
-      | step.Outside ↦ survey.Outside k
+      | Ok next ↦ elim next [ Some u ↦ survey_from (suc k) u ls | None ↦ closed_of (suc k) t ls ]
+      | Err f ↦ Err (refusal_of f k)
     ]

@@ -11,9 +11,9 @@ ghost use Rattle.aspif_read.specs.Reads.{Reads};
 use crate::lines::{line_after, line_end};
 use crate::putting::{put, put_section};
 use crate::reader::survey_from;
-use crate::survey::{Survey, Totals};
+use crate::survey::Totals;
 use aspif_scan::kind::same;
-use results::{Refusal, Written};
+use results::Refusal;
 
 mod judge;
 mod lines;
@@ -35,24 +35,17 @@ fn write(text: &[u8], from: usize, totals: Totals, words: &mut [i32]) -> usize
 }
 
 // The words of an aspif text, at the front of a buffer of at least 16,384, and how many they are; or a refusal, 25, 14 or 15, which writes nothing.
-pub fn read(text: &[u8], words: &mut [i32]) -> Written
+pub fn read(text: &[u8], words: &mut [i32]) -> Result<usize, Refusal>
     ensures { Reads text.now words.old result words.new }
 {
     if words.len() < 16384 {
-        return Written::Refused(Refusal::ShortWords);
+        return Err(Refusal::ShortWords);
     }
     let end = line_end(text, 0);
     if !same(&text[0..end], b"asp 1 0 0") {
-        return Written::Refused(Refusal::OutsideSubset(1));
+        return Err(Refusal::OutsideSubset(1));
     }
     let from = line_after(text, end);
-    let found = survey_from(text, from);
-    match found {
-        Survey::Outside(k) => Written::Refused(Refusal::OutsideSubset(k)),
-        Survey::Beyond(k) => Written::Refused(Refusal::BeyondRange(k)),
-        Survey::Table(totals) => {
-            let n = write(text, from, totals, words);
-            Written::Wrote(n)
-        }
-    }
+    let totals = survey_from(text, from)?;
+    Ok(write(text, from, totals, words))
 }

@@ -6,14 +6,12 @@ ghost use Rattle.aspif_read.specs.Survey.{line_length};
 pub fn line_end(text: &[u8], from: usize) -> usize
     ensures { result ≡ from + line_length (drop from text.now) }
 {
-    let mut i = from;
-    while i < text.len() {
+    for i in from..text.len() {
         if text[i] == 10 {
             return i;
         }
-        i += 1;
     }
-    i
+    from.max(text.len())
 }
 
 // Where the next line begins, after one that ends at `end`.
@@ -21,8 +19,5 @@ pub fn line_after(text: &[u8], end: usize) -> usize
     requires { end ≤ length text.now }
     ensures { result ≡ min (end + 1) (length text.now) }
 {
-    if end < text.len() {
-        return end + 1;
-    }
-    end
+    text.len().min(end + 1)
 }

@@ -54,20 +54,18 @@ fn put_threshold(bound: usize, at: usize, words: &mut [i32]) -> usize
     put(threshold, at, words)
 }
 
+// Stays: two short walks, this one and `put_elements`: one walk would take a closure, and its contract what that puts.
 // The atoms of a row.
 fn put_members(marks: &[u32; 1280], row: usize, at: usize, words: &mut [i32]) -> usize
     requires { (at ≤ length words.old) × (row < 5) }
     ensures { Put words.old at (map pos (row_from marks.now (row * 256) 1 256)) result words.new }
 {
     let mut to = at;
-    let mut p: usize = 1;
-    let mut i = row * 256;
-    while p <= 256 {
-        if 0 < marks[i] {
-            to = put(p, to, words);
+    for i in 0..256 {
+        let place = row * 256 + i;
+        if 0 < marks[place] {
+            to = put(i + 1, to, words);
         }
-        p += 1;
-        i += 1;
     }
     to
 }
@@ -96,14 +94,11 @@ fn put_elements(marks: &[u32; 1280], at: usize, words: &mut [i32]) -> usize
     ensures { Put words.old at (encode_elements (weights_from marks.now 768 1 256)) result words.new }
 {
     let mut to = at;
-    let mut p: usize = 1;
-    let mut i: usize = 768;
-    while p <= 256 {
-        if 0 < marks[i] {
-            to = put_element(marks[i + 256], p, to, words);
+    for i in 0..256 {
+        let place = 768 + i;
+        if 0 < marks[place] {
+            to = put_element(marks[place + 256], i + 1, to, words);
         }
-        p += 1;
-        i += 1;
     }
     to
 }

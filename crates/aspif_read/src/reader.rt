@@ -4,7 +4,8 @@ ghost use Rattle.std.specs.Prelude.{◌≡◌, ◌≤◌, drop, length};
 ghost use Rattle.aspif.specs.Lines.{lines_of};
 ghost use Rattle.aspif_read.specs.Survey.{no_rules, survey_from};
 
-use crate::survey::{Survey, survey_lines};
+use crate::survey::{Totals, survey_lines};
+use results::Refusal;
 
 #[derive(Clone, Copy)]
 pub struct Reader<'a> {
@@ -19,7 +20,7 @@ fn new<'a>(text: &'a [u8], at: usize) -> Reader<'a>
 }
 
 // The first pass over the lines that are left, of which the first is line 2.
-fn survey<'a>(r: Reader<'a>) -> Survey
+fn survey<'a>(r: Reader<'a>) -> Result<Totals, Refusal>
     requires { (r.at ≤ length r.text.now) × (2 ≤ r.at) }
     ensures { result ≡ survey_from 2 no_rules (lines_of (drop r.entry.at r.entry.text.now)) }
 {
@@ -27,7 +28,7 @@ fn survey<'a>(r: Reader<'a>) -> Survey
 }
 
 // The same, of a text and a position.
-pub fn survey_from(text: &[u8], from: usize) -> Survey
+pub fn survey_from(text: &[u8], from: usize) -> Result<Totals, Refusal>
     requires { (from ≤ length text.now) × (2 ≤ from) }
     ensures { result ≡ survey_from 2 no_rules (lines_of (drop from text.now)) }
 {

@@ -3,18 +3,19 @@
 ghost use Rattle.std.specs.Prelude.{◌≤◌, length};
 ghost use Rattle.aspif_read.specs.Writing.{Takes};
 
-use crate::judge::{Judged, aggregates, judged_by};
+use crate::judge::{Fault, Judged, aggregates, judged_by};
 use crate::putting::{put_aggregate, put_rule};
 use aspif_scan::scan::scan;
 
 // The judgement, or where the next word goes and how many aggregates there were before.
 #[derive(Clone, Copy)]
 pub struct Taken {
-    pub judged: Judged,
+    pub judged: Result<Judged, Fault>,
     pub at: usize,
     pub before: usize,
 }
 
+// Stays: one function, told by two flags: with a function for each pass the marks lay on the stack twice, 10.4 KiB where 8 may be used.
 // The judgement of a statement, in the first pass; or what it adds to a section: its rule, or its aggregate if it has one.
 pub fn take(
     line: &[u8],
@@ -39,21 +40,21 @@ pub fn take(
     if rules {
         let to = put_rule(own, before, &marks, at, words);
         return Taken {
-            judged: Judged::Outside,
+            judged: Err(Fault::Outside),
             at: to,
             before: after,
         };
     }
     if own == 0 {
         return Taken {
-            judged: Judged::Outside,
+            judged: Err(Fault::Outside),
             at,
             before: after,
         };
     }
     let to = put_aggregate(s.bound as usize, &marks, at, words);
     Taken {
-        judged: Judged::Outside,
+        judged: Err(Fault::Outside),
         at: to,
         before: after,
     }

@@ -1,28 +1,28 @@
 -- The definitions of `specs/` one step at a time, as the code's loops and arms meet them. Assumes nothing.
-use mathlib.Core.Path.{◌≡◌, refl, sym, ap, ◌∙◌}
+use mathlib.Core.Path.{◌≡◌, refl, sym, ap}
 use mathlib.Core.Logic.{⊎_elim}
 use mathlib.Core.Bool.{Bool, true, false, ◌&&◌, not, and-false}
 use mathlib.Core.List.{List, [], ◌∷◌, map}
-use Prim.Native.Nat.{ℕ, zero, suc, ◌+◌, ◌-◌, ◌<◌, ◌≤◌}
-use native.Mathlib.Numerals.{add-one}
+use Prim.Native.Nat.{ℕ, zero, suc, ◌+◌, ◌-◌, ◌<◌, ◌≤◌, max}
 use native.Mathlib.Nat.{eq-or-lt_of_le}
 use native.Mathlib.Omega.{arith}
-use borrow.Author.Tests.{lt-ltb, le-ltb, le-leb, lt-leb}
-use lib.Dec.{eqb, leb}
-use lib.ListN.{length, get_or, take, drop, drop_of_length-le}
+use borrow.Author.Tests.{lt-ltb, le-ltb, ltb-true, ltb-false}
+use lib.Dec.{eqb, leb, ltb}
+use lib.ListN.{length, get_or, take, drop}
 use lib.Seq.{drop-cons}
+use Rattle.std.specs.Prelude.{Option}
+use Rattle.std.specs.List.{list_all}
+use Rattle.std.specs.Cmp.Lexicographic.{pointwise}
 use Rattle.meaning.specs.Foundedness.{same_list}
-use Rattle.meaning.proofs.Tools.{neq_i}
-use Rattle.text.specs.Text.{runs}
+use Rattle.text.specs.Text.{pick, runs}
 use Rattle.text.specs.Scan.{skipped, spanned}
 use Rattle.text.proofs.Runs.{Starts, starts, start_runs, run_first, runs_end, span_end_run}
 use Rattle.aspif.specs.Lines.{is_nil}
 use Rattle.aspif_scan.specs.declared.number.Number.{Number}
-use Rattle.aspif_scan.specs.declared.machine.Stage.{Stage}
 use Rattle.aspif_scan.specs.declared.machine.State.{State}
 use Rattle.aspif_scan.specs.declared.kind.Kind.TheVariants.{Closing, Comment, Other}
-use Rattle.aspif_scan.specs.Machine.{step_at, step_of, read_by}
-use Rattle.aspif_scan.specs.Marks.{mark_at, mark_of, marks_by, row_from, light_from}
+use Rattle.aspif_scan.specs.Machine.{higher_of, step_of, read_by}
+use Rattle.aspif_scan.specs.Marks.{mark_of, marks_by, row_from, light_from}
 use Rattle.aspif_scan.specs.Scan.{kind_of, number_of, numbers_in}
 
 pub not_true : (b : Bool) → not b ≡ true → b ≡ false
@@ -33,71 +33,46 @@ pub not_false : (b : Bool) → not b ≡ false → b ≡ true
 not_false true e = refl
 not_false false e = sym e
 
--- ---- a step, and its marks
+-- ---- the higher of two atoms
 
-pub step_as : (s : State) (n : Number) (t : Stage) → s.stage ≡ t → step_at t s n ≡ step_of s n
-unfolding step_of
-step_as s n t e = ap (λ (x : Stage). step_at x s n) (sym e)
-
-pub mark_as : (s : State) (n : Number) (m : List ℕ) (t : Stage) → s.stage ≡ t → mark_at t s.atom n m ≡ mark_of s n m
-unfolding mark_of
-mark_as s n m t e = ap (λ (x : Stage). mark_at x s.atom n m) (sym e)
+pub higher_max : (top p : ℕ) → p ≤ 256 → max top p ≡ higher_of top p
+unfolding higher_of
+higher_max top p h = rw (le-ltb 256 p h) (at (ltb top p) refl)
+  where
+    at : (b : Bool) → ltb top p ≡ b → max top p ≡ pick b p top
+    at true e = omega (arith, ltb-true top p e)
+    at false e = omega (arith, ltb-false top p e)
 
 -- ---- a row
 
-above : (n : ℕ) → 0 < n → n ≡ suc (n - 1)
-above n h = omega arith
-
-module _ (m : List ℕ) (i : ℕ) (left : ℕ) (h : 0 < left) (k : left ≤ 256) where
-  pub count_yes : 0 < get_or m i 0 → length (row_from m i (257 - left) left) ≡ suc (length (row_from m (i + 1) (257 - (left - 1)) (left - 1)))
+module _ (m : List ℕ) (i p n j q k : ℕ) (a : n ≡ suc k) (b : j ≡ suc i) (c : q ≡ suc p) where
+  pub count_yes : 0 < get_or m i 0 → length (row_from m i p n) ≡ suc (length (row_from m j q k))
   unfolding row_from
-  count_yes t =
-      let q : 257 - (left - 1) ≡ suc (257 - left) = omega arith in
-      ap (λ (n : ℕ). length (row_from m i (257 - left) n)) (above left h) ∙ (rw (row_from, lt-ltb 0 (get_or m i 0) t, q, add-one))
+  count_yes t = rw (a, b, c, row_from, lt-ltb 0 (get_or m i 0) t)
 
-  pub count_no : get_or m i 0 ≤ 0 → length (row_from m i (257 - left) left) ≡ length (row_from m (i + 1) (257 - (left - 1)) (left - 1))
+  pub count_no : get_or m i 0 ≤ 0 → length (row_from m i p n) ≡ length (row_from m j q k)
   unfolding row_from
-  count_no t =
-      let q : 257 - (left - 1) ≡ suc (257 - left) = omega arith in
-      ap (λ (n : ℕ). length (row_from m i (257 - left) n)) (above left h) ∙ (rw (row_from, le-ltb 0 (get_or m i 0) t, q, add-one))
+  count_no t = rw (a, b, c, row_from, le-ltb 0 (get_or m i 0) t)
 
 pub count_none : (m : List ℕ) (i p left : ℕ) → left ≤ 0 → length (row_from m i p left) ≡ 0
 unfolding row_from
 count_none m i p zero h = refl
 count_none m i p (suc n) h = absurd (omega arith)
 
-module _ (m : List ℕ) (i : ℕ) (left : ℕ) (h : 0 < left) where
-  pub light_yes : get_or m i 0 ≤ 65535 → light_from m i left ≡ light_from m (i + 1) (left - 1)
-  unfolding light_from
-  light_yes t = ap (light_from m i) (above left h) ∙ (rw (light_from, le-leb (get_or m i 0) 65535 t, add-one))
-
-  pub light_no : 65535 < get_or m i 0 → light_from m i left ≡ false
-  unfolding light_from
-  light_no t = ap (light_from m i) (above left h) ∙ (rw (light_from, lt-leb (get_or m i 0) 65535 t))
-
-pub light_none : (m : List ℕ) (i left : ℕ) → left ≤ 0 → light_from m i left ≡ true
+pub light_all : (m : List ℕ) (i n : ℕ) → i + n ≤ length m → list_all (λ (w : ℕ). leb w 65535) (take n (drop i m)) ≡ light_from m i n
 unfolding light_from
-light_none m i zero h = refl
-light_none m i (suc n) h = absurd (omega arith)
+light_all m i zero h = refl
+light_all m i (suc n) h =
+    let k : i < length m = omega arith in
+    rw (drop-cons m i 0 k) (ap (λ (b : Bool). leb (get_or m i 0) 65535 && b) (light_all m (suc i) n (omega arith)))
 
 -- ---- the same text
 
-module _ (a b : List ℕ) (i : ℕ) (h : i < length a) where
-  pub same_short : length b ≤ i → same_list (drop i a) (drop i b) ≡ false
-  same_short k = rw (drop-cons a i 0 h, drop_of_length-le b k)
-
-  pub same_differs : i < length b → (get_or a i 0 ≡ get_or b i 0 → ⊥) → same_list (drop i a) (drop i b) ≡ false
-  same_differs k e = rw (drop-cons a i 0 h, drop-cons b i 0 k, neq_i (get_or a i 0) (get_or b i 0) e)
-
-  pub same_on : i < length b → eqb (get_or a i 0) (get_or b i 0) ≡ true → same_list (drop i a) (drop i b) ≡ same_list (drop (i + 1) a) (drop (i + 1) b)
-  same_on k e = rw (drop-cons a i 0 h, drop-cons b i 0 k, e, add-one)
-
-pub same_end : (a b : List ℕ) (i : ℕ) → length a ≤ i → i ≤ length b → leb (length b) i ≡ same_list (drop i a) (drop i b)
-same_end a b i h k =
-    ⊎_elim
-    (λ e. let q : length b ≤ i = omega arith in rw (drop_of_length-le a h, drop_of_length-le b q, le-leb (length b) i q))
-    (λ e. rw (drop_of_length-le a h, drop-cons b i 0 e, lt-leb (length b) i e))
-    (eq-or-lt_of_le k)
+pub same_pointwise : (a b : List ℕ) → pointwise eqb a b ≡ same_list a b
+same_pointwise [] [] = refl
+same_pointwise [] (y ∷ b) = refl
+same_pointwise (x ∷ a) [] = refl
+same_pointwise (x ∷ a) (y ∷ b) = ap (λ (t : Bool). eqb x y && t) (same_pointwise a b)
 
 -- ---- the kind of a line
 
@@ -143,7 +118,7 @@ field_none line end next e h =
 
 -- ---- a line's numbers
 
-module _ (s : State) (n : Number) (ns : List Number) where
+module _ (s : State) (n : Option Number) (ns : List (Option Number)) where
   pub read_on : read_by s (n ∷ ns) ≡ read_by (step_of s n) ns
   unfolding read_by
   read_on = refl

@@ -1,8 +1,8 @@
 -- A rule statement number by number, as the code reads it. Definitions only, for the contracts of inner functions; `proofs/` ties them to `Lines`.
---   step_of     what one number more does to what is expected
---   read_by     the state after all numbers
+--   step_of     what one field more does to what is expected: a number, or none
+--   read_by     the state after all fields
 -- Assumes nothing.
-use Rattle.std.specs.Prelude.{Bool, true, ◌&&◌, not, List, [], ◌∷◌, ℕ, ◌-◌, min, eqb, leb, ltb}
+use Rattle.std.specs.Prelude.{Bool, true, ◌&&◌, not, List, [], ◌∷◌, ℕ, ◌-◌, min, eqb, leb, ltb, Option, Some, None}
 use Rattle.text.specs.Text.{pick}
 use Rattle.aspif_scan.specs.declared.number.Number.{Number}
 use Rattle.aspif_scan.specs.declared.machine.Stage.{Stage}
@@ -11,7 +11,7 @@ use Rattle.aspif_scan.specs.declared.machine.State.{State}
 
 -- a number of 0 or more
 abbrev pub plainly : Number → Bool
-plainly n = n.good && not n.minus
+plainly n = not n.minus
 
 -- the higher of two atoms, the second only if it is at most 256
 unfoldable pub higher_of : ℕ → ℕ → ℕ
@@ -57,7 +57,7 @@ listed_of s n form member after = record {
 -- the bound b: b - 1 is in -1 to 4,194,304; a larger one is held at the least that is beyond
 abbrev pub bound_of : State → Number → State
 bound_of s n = record {
-  stage = pick n.good PairCount Outside;
+  stage = PairCount;
   left = s.left;
   atom = s.atom;
   bound = min n.size 4194306;
@@ -68,7 +68,7 @@ bound_of s n = record {
 -- the weight of the last atom
 abbrev pub weight_of : State → Number → State
 weight_of s n = record {
-  stage = pick n.good (pick (eqb s.left 0) WeightEnd Pair) Outside;
+  stage = pick (eqb s.left 0) WeightEnd Pair;
   left = s.left;
   atom = s.atom;
   bound = s.bound;
@@ -86,7 +86,7 @@ step_at HeadCount s n = counted_of s n Head Body
 step_at Head s n = listed_of s n (plainly n) Head Body
 step_at Body s n = body_of s n
 step_at LiteralCount s n = counted_of s n Literal NormalEnd
-step_at Literal s n = listed_of s n n.good Literal NormalEnd
+step_at Literal s n = listed_of s n true Literal NormalEnd
 step_at Bound s n = bound_of s n
 step_at PairCount s n = counted_of s n Pair WeightEnd
 step_at Pair s n = listed_of s n (plainly n) Weight Weight
@@ -95,10 +95,11 @@ step_at NormalEnd s n = outside_of s
 step_at WeightEnd s n = outside_of s
 step_at Outside s n = outside_of s
 
-unfoldable pub step_of : State → Number → State
-step_of s n = step_at s.stage s n
+unfoldable pub step_of : State → Option Number → State
+step_of s None = outside_of s
+step_of s (Some n) = step_at s.stage s n
 
--- the state after all numbers
-unfoldable pub read_by : State → List Number → State
+-- the state after all fields
+unfoldable pub read_by : State → List (Option Number) → State
 read_by s [] = s
 read_by s (n ∷ ns) = read_by (step_of s n) ns

@@ -1,11 +1,11 @@
 -- The marks and weights of a statement's atoms, as the code holds them. Definitions only, for the contracts of inner functions; `proofs/` ties
 -- them to `Reading`.
---   mark_of     what one number more of a statement adds
---   marks_by    the marks after all numbers
+--   mark_of     what one field more of a statement adds
+--   marks_by    the marks after all fields
 --   row_from    the atoms of a row that are marked, ascending
 --   weights_from   the atoms of the fourth row that are marked, each with its number in the fifth
 -- Assumes nothing.
-use Rattle.std.specs.Prelude.{Bool, true, ◌&&◌, List, [], ◌∷◌, ℕ, zero, suc, ◌+◌, ◌*◌, ◌-◌, min, eqb, leb, ltb, get_or, set}
+use Rattle.std.specs.Prelude.{Bool, true, ◌&&◌, List, [], ◌∷◌, ℕ, zero, suc, ◌+◌, ◌*◌, ◌-◌, min, eqb, leb, ltb, get_or, set, Option, Some, None}
 use Rattle.meaning.specs.Lists.{cons_if}
 use Rattle.meaning.specs.Program.{Element}
 use Rattle.text.specs.Text.{pick}
@@ -16,14 +16,15 @@ use Rattle.aspif_scan.specs.declared.machine.State.{State}
 use Rattle.aspif_scan.specs.Machine.{step_of}
 
 -- the index of the atom p in a row
-unfoldable pub slot_of : ℕ → ℕ → ℕ
-slot_of row p = pick (eqb p 0) 1280 (pick (ltb 256 p) 1280 (row * 256 + (p - 1)))
+unfoldable pub slot_of : ℕ → ℕ → Option ℕ
+slot_of row p = pick (eqb p 0) None (pick (ltb 256 p) None (Some (row * 256 + (p - 1))))
 
 abbrev pub literal_row : Bool → ℕ
 literal_row minus = pick minus 2 1
 
-unfoldable pub add_of : List ℕ → ℕ → ℕ → List ℕ
-add_of m i more = pick (leb 1280 i) m (set m i (min (get_or m i 0 + more) 65536))
+unfoldable pub add_of : List ℕ → Option ℕ → ℕ → List ℕ
+add_of m None more = m
+add_of m (Some i) more = set m i (min (get_or m i 0 + more) 65536)
 
 abbrev pub mark_at : Stage → ℕ → Number → List ℕ → List ℕ
 mark_at Rule p n m = m
@@ -41,11 +42,12 @@ mark_at NormalEnd p n m = m
 mark_at WeightEnd p n m = m
 mark_at Outside p n m = m
 
-unfoldable pub mark_of : State → Number → List ℕ → List ℕ
-mark_of s n m = mark_at s.stage s.atom n m
+unfoldable pub mark_of : State → Option Number → List ℕ → List ℕ
+mark_of s None m = m
+mark_of s (Some n) m = mark_at s.stage s.atom n m
 
--- the marks after all numbers
-unfoldable pub marks_by : State → List Number → List ℕ → List ℕ
+-- the marks after all fields
+unfoldable pub marks_by : State → List (Option Number) → List ℕ → List ℕ
 marks_by s [] m = m
 marks_by s (n ∷ ns) m = marks_by (step_of s n) ns (mark_of s n m)
 

@@ -1,21 +1,14 @@
 -- The number of a field, as the code holds it. Definitions only, for the contracts of inner functions; `proofs/` ties them to `Lines`.
---   held       the value of digits, held at 2 to the 64 less 1
---   number_in   a number with its sign and its size, or that there is none
+--   sized      the sign and the size of a number, held at 2 to the 64 less 1;  number_in: those of a field, where it is a number
 -- Assumes nothing.
-use Rattle.std.specs.Prelude.{true, false, ℕ, suc, min, ℤ, pos, negsuc}
-use Rattle.std.proofs.Math.Option.{Option, some, none}
-use Rattle.aspif_scan.specs.declared.number.Digits.{Digits}
-use Rattle.aspif_scan.specs.declared.number.Digits.TheVariants as digits
+use Rattle.std.specs.Prelude.{true, false, suc, min, ℤ, pos, negsuc, Option, Some, None}
+use Rattle.std.proofs.Math.Option as T
 use Rattle.aspif_scan.specs.declared.number.Number.{Number}
 
-abbrev pub held : Option ℕ → Digits
-held none = digits.Bad
-held (some n) = digits.Value (min n 18446744073709551615)
+abbrev pub sized : ℤ → Number
+sized (pos n) = record { minus = false; size = min n 18446744073709551615 }
+sized (negsuc n) = record { minus = true; size = min (suc n) 18446744073709551615 }
 
-abbrev pub no_number : Number
-no_number = record { good = false; minus = false; size = 0 }
-
-abbrev pub number_in : Option ℤ → Number
-number_in none = no_number
-number_in (some (pos n)) = record { good = true; minus = false; size = min n 18446744073709551615 }
-number_in (some (negsuc n)) = record { good = true; minus = true; size = min (suc n) 18446744073709551615 }
+abbrev pub number_in : T.Option ℤ → Option Number
+number_in T.none = None
+number_in (T.some z) = Some (sized z)

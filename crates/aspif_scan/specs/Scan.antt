@@ -1,8 +1,8 @@
 -- A line, as the code takes it. Definitions only, for the contracts of inner functions; `proofs/` ties them to `Lines`.
 --   kind_of      the closing 0, a comment, or another line, by its fields
---   numbers_in   the numbers of a line's fields
+--   numbers_in   the numbers of a line's fields, where they are numbers
 -- Assumes nothing.
-use Rattle.std.specs.Prelude.{◌&&◌, List, [], ◌∷◌, map, ℕ}
+use Rattle.std.specs.Prelude.{◌&&◌, List, [], ◌∷◌, map, ℕ, Option}
 use Rattle.meaning.specs.Foundedness.{same_list}
 use Rattle.text.specs.Text.{pick, runs, number}
 use Rattle.aspif.specs.Lines.{is_nil}
@@ -16,8 +16,8 @@ abbrev pub kind_of : List (List ℕ) → Kind
 kind_of [] = Other
 kind_of (f ∷ fs) = pick (same_list f (48 ∷ []) && is_nil fs) Closing (pick (same_list f (49 ∷ 48 ∷ [])) Comment Other)
 
-abbrev pub number_of : List ℕ → Number
+abbrev pub number_of : List ℕ → Option Number
 number_of f = number_in (number f)
 
-unfoldable pub numbers_in : List ℕ → List Number
+unfoldable pub numbers_in : List ℕ → List (Option Number)
 numbers_in line = map number_of (runs line)

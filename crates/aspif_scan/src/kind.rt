@@ -18,17 +18,7 @@ pub enum Kind {
 pub fn same(text: &[u8], other: &[u8]) -> bool
     ensures { result ≡ same_list text.now other.now }
 {
-    let mut i: usize = 0;
-    while i < text.len() {
-        if other.len() <= i {
-            return false;
-        }
-        if text[i] != other[i] {
-            return false;
-        }
-        i += 1;
-    }
-    other.len() <= i
+    text == other
 }
 
 // A line's kind, by its first field.

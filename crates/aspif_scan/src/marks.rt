@@ -1,6 +1,6 @@
 // What a statement holds, as five rows of a number for each atom 1 to 256: how often it is in the head, positive in the body, negated there, in
 // the weight body, and the weights that it has there, added. A number is held at 65,536, which is no weight of 01's. Meaning: `specs/Marks.antt`.
-ghost use Rattle.std.specs.Prelude.{◌≡◌, ◌+◌, ◌*◌, ◌<◌, ◌≤◌, min, length};
+ghost use Rattle.std.specs.Prelude.{◌≡◌, ◌+◌, ◌*◌, ◌<◌, ◌≤◌, min, length, IfSome};
 ghost use Rattle.aspif_scan.specs.Marks.{slot_of, literal_row, add_of, mark_of, row_from, light_from};
 
 use crate::machine::{Stage, State};
@@ -10,68 +10,66 @@ use crate::number::Number;
 fn sum(x: u32, more: u64) -> u32
     ensures { result ≡ min (x + more) 65536 }
 {
-    if 65536 < more {
-        return 65536;
-    }
-    let total = x as u64 + more;
-    if 65536 < total {
-        return 65536;
-    }
-    total as u32
+    let total = u64::from(x).saturating_add(more);
+    total.min(65536) as u32
 }
 
-// The index of an atom in a row; 1,280, where there is none, for a number that is no atom of 1 to 256.
-fn slot(row: usize, p: u64) -> usize
+// The index of an atom in a row, where the number is an atom of 1 to 256.
+#[tactic(auto, unfolding(crate::specs::Marks::slot_of))]
+fn slot(row: usize, p: u64) -> Option<usize>
     requires { row < 5 }
-    ensures { result ≡ slot_of row p }
+    ensures value { result ≡ slot_of row p }
+    ensures inside { IfSome result (λ i. i < 1280) }
 {
     if p == 0 {
-        return 1280;
+        return None;
     }
     if 256 < p {
-        return 1280;
+        return None;
     }
     let place = p - 1;
-    row * 256 + place as usize
+    Some(row * 256 + place as usize)
 }
 
 fn literal_row(minus: bool) -> usize
     ensures value { result ≡ literal_row minus }
     ensures upper_bound { result < 5 }
 {
-    if minus {
-        return 2;
-    }
-    1
+    if minus { 2 } else { 1 }
 }
 
-// Adds to the number at an index.
-fn add(marks: &mut [u32; 1280], i: usize, more: u64)
-    ensures { marks.new ≡ add_of marks.old i more }
+// Adds to the number of an atom in a row.
+#[tactic(auto, unfolding(crate::specs::Marks::add_of))]
+fn add(marks: &mut [u32; 1280], row: usize, p: u64, more: u64)
+    requires { row < 5 }
+    ensures { marks.new ≡ add_of marks.old (slot_of row p) more }
 {
-    if 1280 <= i {
+    let Some(i) = slot(row, p) else {
         return;
-    }
+    };
     marks[i] = sum(marks[i], more);
 }
 
-// What the next number of a statement adds.
-pub fn mark(s: State, n: Number, marks: &mut [u32; 1280])
-    ensures { marks.new ≡ mark_of s n marks.old }
+// What the next field of a statement adds: nothing, where it is no number.
+#[tactic(auto, unfolding(crate::specs::Marks::mark_of))]
+pub fn mark(s: State, field: Option<Number>, marks: &mut [u32; 1280])
+    ensures { marks.new ≡ mark_of s field marks.old }
 {
-    let stage = s.stage;
-    match stage {
+    let Some(n) = field else {
+        return;
+    };
+    match s.stage {
         Stage::Rule => {}
         Stage::Disjunction => {}
         Stage::HeadCount => {}
-        Stage::Head => add(marks, slot(0, n.size), 1),
+        Stage::Head => add(marks, 0, n.size, 1),
         Stage::Body => {}
         Stage::LiteralCount => {}
-        Stage::Literal => add(marks, slot(literal_row(n.minus), n.size), 1),
+        Stage::Literal => add(marks, literal_row(n.minus), n.size, 1),
         Stage::Bound => {}
         Stage::PairCount => {}
-        Stage::Pair => add(marks, slot(3, n.size), 1),
-        Stage::Weight => add(marks, slot(4, s.atom), n.size),
+        Stage::Pair => add(marks, 3, n.size, 1),
+        Stage::Weight => add(marks, 4, s.atom, n.size),
         Stage::NormalEnd => {}
         Stage::WeightEnd => {}
         Stage::Outside => {}
@@ -85,14 +83,10 @@ pub fn count(marks: &[u32; 1280], row: usize) -> usize
     ensures upper_bound { result ≤ 256 }
 {
     let mut n: usize = 0;
-    let mut at = row * 256;
-    let mut left: usize = 256;
-    while 0 < left {
-        if 0 < marks[at] {
+    for i in 0..256 {
+        if 0 < marks[row * 256 + i] {
             n += 1;
         }
-        at += 1;
-        left -= 1;
     }
     n
 }
@@ -101,14 +95,5 @@ pub fn count(marks: &[u32; 1280], row: usize) -> usize
 pub fn light(marks: &[u32; 1280]) -> bool
     ensures { result ≡ light_from marks.now 1024 256 }
 {
-    let mut at: usize = 1024;
-    let mut left: usize = 256;
-    while 0 < left {
-        if 65535 < marks[at] {
-            return false;
-        }
-        at += 1;
-        left -= 1;
-    }
-    true
+    marks[1024..].iter().all(|weight| *weight <= 65535)
 }

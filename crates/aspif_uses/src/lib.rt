@@ -3,12 +3,12 @@
 #![tactic(auto)]
 
 ghost use Rattle.std.specs.Prelude.{◌≡◌, suc, ◌≤◌, ◌<◌, replicate};
-ghost use Rattle.layout.specs.Layout.{Laid, Members};
+ghost use Rattle.layout.specs.Layout.{Members};
 ghost use Rattle.aspif_parts.specs.Held.{numbered_from, held_by};
 ghost use Rattle.aspif_parts.specs.Uses.{mark_all, mark_rules, atom_by, next_by, numbered_by, NewAtoms};
 
 use aspif_parts::place;
-use layout::Table;
+use layout::Accepted;
 
 // How many literals there can be: two for each of 64 aggregates.
 pub const MOST: usize = 128;
@@ -18,33 +18,29 @@ fn mark(l: &[i32], mut marks: [u16; 128]) -> [u16; 128]
     requires { Members 64 l.now }
     ensures { result ≡ mark_all marks l.now }
 {
-    let mut i: usize = 0;
-    while i < l.len() {
+    for i in 0..l.len() {
         let at = place(l, i);
         marks[at] = 1;
-        i += 1;
     }
     marks
 }
 
 // Every literal that a rule has is marked.
-fn marked(t: &[i32], tb: Table) -> [u16; 128]
-    requires { Laid t.now tb }
-    ensures { result ≡ mark_rules (replicate 128 0) (numbered_from t.now tb.first tb.rules) }
+fn marked(t: &Accepted) -> [u16; 128]
+    ensures { result ≡ mark_rules (replicate 128 0) (numbered_from t.now.words.now t.now.places.first t.now.places.rules) }
 {
     let mut marks = [0u16; MOST];
-    let mut at = tb.first;
-    let mut left = tb.rules;
-    while 0 < left {
-        let literals = layout::literals_at(t, at);
-        let next = mark(layout::part(t, literals), marks);
+    let mut at = t.places.first;
+    for _ in 0..t.places.rules {
+        let literals = layout::literals_at(t.words, at);
+        let next = mark(layout::part(t.words, literals), marks);
         marks = next;
-        at = layout::past(t, literals);
-        left -= 1;
+        at = layout::past(t.words, literals);
     }
     marks
 }
 
+// Stays: 0 says that a literal is not in use, as `NewAtoms` has it, whose meaning may not change.
 // The new atom of a literal with this mark, where `next` is the next one that is free; 0 where the literal is not in use.
 fn atom(mark: u16, next: u16) -> u16
     ensures { result ≡ atom_by mark next }
@@ -72,22 +68,19 @@ fn numbered(n: usize, mut marks: [u16; 128]) -> [u16; 128]
     ensures { result ≡ numbered_by (suc n) marks }
 {
     let mut next = n as u16 + 1;
-    let mut i: usize = 0;
-    while i < MOST {
+    for i in 0..MOST {
         let mark = marks[i];
         marks[i] = atom(mark, next);
         next = after(mark, next);
-        i += 1;
     }
     marks
 }
 
 // The new atoms of an accepted table.
-pub fn new_atoms(t: &[i32], tb: Table) -> [u16; 128]
-    requires { Laid t.now tb }
-    ensures { NewAtoms (held_by t.now tb) result }
+pub fn new_atoms(t: &Accepted) -> [u16; 128]
+    ensures { NewAtoms (held_by t.now.words.now t.now.places) result }
 {
-    let marks = marked(t, tb);
-    let n = tb.atoms;
+    let marks = marked(t);
+    let n = t.places.atoms;
     numbered(n, marks)
 }

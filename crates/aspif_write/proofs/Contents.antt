@@ -1,28 +1,26 @@
 -- What an accepted table holds, read in place, is what its words hold. Assumes nothing.
 use mathlib.Core.Path.{◌≡◌, refl, sym, ap, ◌∙◌, subst}
-use mathlib.Core.Bool.{Bool, true, false}
 use mathlib.Core.List.{List, [], ◌∷◌, ◌++◌, map, append_assoc, append-nil}
 use Prim.Native.Nat.{ℕ, suc, ◌+◌, ◌<◌}
 use native.Mathlib.Omega.{arith}
 use lib.IntN.{ℤ, pos, nat_abs}
 use lib.ListN.{length, get_or, drop}
 use lib.Seq.{ext_get_or}
-use Rattle.meaning.proofs.Tools.{clash}
+use Rattle.std.specs.Prelude.{Result, Ok}
+use Rattle.results.specs.declared.Refusal.{Refusal}
 use Rattle.layout.specs.Layout as layout
 use Rattle.layout.specs.Layout.{part_at, pos_at, neg_at, aggs_at, past_rule, aggregate_at, start_from, Laid}
 use Rattle.layout.specs.declared.Table.{Table}
 use Rattle.table.specs.Contents.{NumberedRule, Contents, encode_list, encode_atoms, encode_aggregate, encode_rule, encode_all, encode, no_aggregate}
 use Rattle.table.specs.Grammar.{accepted, contents_of}
 use Rattle.table.specs.Places.{table_of}
-use Rattle.table.specs.declared.Fault.{Fault}
-use Rattle.table.specs.declared.Fault.TheVariants as fault
-use Rattle.table.specs.declared.Reading.{Reading}
 use Rattle.table.proofs.Drops.{at_next, at_skip}
 use Rattle.table.proofs.LaidRules.{atoms_back, list_part, list_next_lem}
 use Rattle.table.proofs.Accepted.{accepted_encoding, accepted_laid, accepted_aggregate}
 use Rattle.judging.specs.declared.Buffer.{Buffer}
 use Rattle.judging.specs.Refusals.{Accepted}
 use Rattle.judging.specs.Judging.{Judged, refused, taken}
+use Rattle.judging.proofs.Judged.{no_fault, same_table}
 use Rattle.aspif.specs.Writing.{stated, used, defining_all, written}
 use Rattle.aspif.specs.Lines.{text_of}
 use Rattle.aspif_parts.specs.Held.{numbered_at, numbered_from, aggregates_from, held_by}
@@ -106,20 +104,16 @@ module _ (t : List ℤ) (c : Contents) (e : contents_of t ≡ accepted c) where
 
 -- ---- what the judge has taken
 
-abbrev is_nothing : Fault → Bool
-is_nothing fault.Nothing = true
-is_nothing (fault.Refused f) = false
-
 pub record Taken (t : List ℤ) (b : Buffer) (tb : Table) : Type 0 where
   pub contents : Contents
   pub accepted : Accepted t b contents
   pub laid : Laid t tb
   pub held : held_by t tb ≡ contents
 
-pub judged_held : (t : List ℤ) (b : Buffer) (r : Reading) → Judged t b r → r.fault ≡ fault.Nothing → Taken t b r.table
-judged_held t b r (refused f h e) i = absurd (clash (ap is_nothing i) (ap is_nothing (ap (λ (x : Reading). x.fault) e)))
-judged_held t b r (taken c a e) i =
-    let k : r.table ≡ table_of c = ap (λ (x : Reading). x.table) e in
+pub judged_held : (t : List ℤ) (b : Buffer) (r : Result Table Refusal) (tb : Table) → Judged t b r → r ≡ Ok tb → Taken t b tb
+judged_held t b r tb (refused f h e) i = absurd (no_fault e i)
+judged_held t b r tb (taken c a e) i =
+    let k : tb ≡ table_of c = same_table i e in
     record {
       contents = c;
       accepted = a;

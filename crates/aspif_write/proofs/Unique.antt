@@ -5,9 +5,10 @@ use mathlib.Core.List.{List}
 use Prim.Native.Nat.{ℕ, ◌≤◌, ◌<◌}
 use lib.IntN.{ℤ}
 use lib.ListN.{length}
+use Rattle.std.specs.Prelude.{Result}
 use Rattle.meaning.proofs.Cond.{lt_case}
+use Rattle.results.specs.declared.Refusal.{Refusal}
 use Rattle.results.specs.declared.Refusal.TheVariants.{ShortBuffer}
-use Rattle.results.specs.declared.Written.{Written}
 use Rattle.table.specs.Contents.{Contents}
 use Rattle.judging.specs.declared.Buffer.TheVariants.{Nothing}
 use Rattle.judging.specs.Refusals.{Accepted}
@@ -16,7 +17,7 @@ use Rattle.aspif.specs.Writing.{written}
 use Rattle.aspif.specs.Lines.{text_of}
 use Rattle.aspif_write.specs.Promise.{before, short, Writes}
 
-module _ (t : List ℤ) (old : List ℕ) (new new' : List ℕ) (r r' : Written) (a : Writes t old new r) (b : Writes t old new' r') where
+module _ (t : List ℤ) (old : List ℕ) (new new' : List ℕ) (r r' : Result ℕ Refusal) (a : Writes t old new r) (b : Writes t old new' r') where
   by_room : (c : Contents) → Accepted t Nothing c → (length old < length (text_of (written c))) ⊎ (length (text_of (written c)) ≤ length old) → (r ≡ r') × (new ≡ new')
   by_room c h (inl k) =
       let x = (a.refused ShortBuffer).1 (short c h k refl refl) in

@@ -10,10 +10,7 @@ ghost use Rattle.bytes_out.specs.Putting.{Put, field_text, signed_text};
 fn after(at: usize) -> usize
     ensures { result ≡ min (at + 1) 18446744073709551615 }
 {
-    if at < 18446744073709551615 {
-        return at + 1;
-    }
-    at
+    at.saturating_add(1)
 }
 
 // One byte at index `at`, if there is room.
@@ -38,10 +35,8 @@ pub fn put(text: &[u8], at: usize, out: &mut [u8]) -> usize
     ensures { Put out.old at text.now result out.new }
 {
     let mut to = at;
-    let mut i: usize = 0;
-    while i < text.len() {
-        to = put_byte(text[i], to, out);
-        i += 1;
+    for b in text {
+        to = put_byte(*b, to, out);
     }
     to
 }
@@ -50,7 +45,7 @@ pub fn put(text: &[u8], at: usize, out: &mut [u8]) -> usize
 fn last_digit(n: usize) -> u8
     ensures { result ≡ 48 + n % 10 }
 {
-    (n % 10) as u8 + 48
+    b'0' + (n % 10) as u8
 }
 
 // A number in decimal digits: those before the last, and the last.
@@ -68,7 +63,7 @@ pub fn put_number(n: usize, at: usize, out: &mut [u8]) -> usize
 pub fn put_field(n: usize, at: usize, out: &mut [u8]) -> usize
     ensures { Put out.old at (field_text n) result out.new }
 {
-    let after_space = put_byte(32, at, out);
+    let after_space = put_byte(b' ', at, out);
     put_number(n, after_space, out)
 }
 
@@ -79,7 +74,7 @@ pub fn put_signed(plain: bool, n: usize, at: usize, out: &mut [u8]) -> usize
     if plain {
         return put_field(n, at, out);
     }
-    let after_space = put_byte(32, at, out);
-    let after_minus = put_byte(45, after_space, out);
+    let after_space = put_byte(b' ', at, out);
+    let after_minus = put_byte(b'-', after_space, out);
     put_number(n, after_minus, out)
 }

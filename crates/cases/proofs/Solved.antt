@@ -3,6 +3,7 @@
 use mathlib.Core.Path.{◌≡◌, refl, sym, ◌∙◌, ap}
 use mathlib.Core.Bool.{Bool, true, false, cond}
 use mathlib.Core.List.{List, [], ◌∷◌, ◌++◌}
+use Rattle.std.specs.Prelude.{⊤, Result, Ok, Err}
 use Prim.Native.Nat.{ℕ, zero, suc, ◌+◌, ◌≤◌, ◌<◌}
 use native.Mathlib.Omega.{arith}
 use lib.Dec.{eqb, leb}
@@ -16,15 +17,13 @@ use Rattle.meaning.proofs.Tools.{and_l, and_r, eq}
 use Rattle.meaning.proofs.Cond.{if_lt_yes}
 use Rattle.results.specs.declared.Refusal.{Refusal}
 use Rattle.results.specs.declared.Solved.{Solved}
-use Rattle.results.specs.declared.Solved.TheVariants as solved
 use Rattle.results.specs.Results.{number_of, place_of}
 use Rattle.results.proofs.Determined.{report_determines}
 use Rattle.table.specs.Contents.{Contents, program}
 use Rattle.table.specs.Grammar as grammar
 use Rattle.depend.specs.Cycles.{cycle_by}
-use Rattle.depend.specs.declared.Cycle.{Cycle}
-use Rattle.depend.specs.declared.Cycle.TheVariants as cycle
-use Rattle.search.specs.Search.{Result, answer, no_answer, limit, jump}
+use Rattle.search.specs.Search as defined
+use Rattle.search.specs.Search.{answer, no_answer, limit, jump}
 use Rattle.search.specs.Shown.{true_list, shown_result, shown}
 use Rattle.judging.specs.declared.Buffer.TheVariants.{Plan}
 use Rattle.judging.specs.Refusals.{RefusedBy, table}
@@ -67,23 +66,23 @@ true_lists zero X Z h = refl
 true_lists (suc k) X Z h =
     ap (λ (l : List ℕ). l ++ cond (X (suc k)) (suc k ∷ []) []) (true_lists k X Z (λ i l. h i (omega arith))) ∙ ap (λ (b : Bool). true_list k Z ++ cond b (suc k ∷ []) []) (h k (omega arith))
 
-shown_by : (n : ℕ) (x : Result) (k s p : ℕ) (old : List ℕ) → shown_solved n (solved_by x (record { choices = k; skips = s; passes = p })) (plan_after n x old) ≡ shown_result n k s x
+shown_by : (n : ℕ) (x : defined.Result) (k s p : ℕ) (old : List ℕ) → shown_solved n (Ok (solved_by x (record { choices = k; skips = s; passes = p }))) (plan_after n x old) ≡ shown_result n k s x
 shown_by n (answer X) k s p old = ap (λ (l : List ℕ). 0 ∷ k ∷ s ∷ l) (true_lists n (plan_atoms n (plan_with n X old)) X (λ i h. plan_back X n i old h))
 shown_by n no_answer k s p old = refl
 shown_by n limit k s p old = refl
 
 -- ---- what meets the promise shows what the definitions report
 
-module _ (cycles : Bool) (t : List ℤ) (lim : ℕ) (old new : List ℕ) (r : Solved) (short : length t ≤ 16384) (wide : 256 ≤ length old) (S : Solving t (record { cycles = cycles; limit = lim }) old new r) where
+module _ (cycles : Bool) (t : List ℤ) (lim : ℕ) (old new : List ℕ) (r : Result Solved Refusal) (short : length t ≤ 16384) (wide : 256 ≤ length old) (S : Solving t (record { cycles = cycles; limit = lim }) old new r) where
   refusal_shown : (n : ℕ) (f : Refusal) → RefusedBy cycles t (Plan (length old)) (number_of f) (place_of f) → shown_solved n r new ≡ shown_refusal f
-  refusal_shown n f h = ap (λ (x : Solved). shown_solved n x new) (report_determines r (solved.Refused f) ((S.refused (number_of f) (place_of f)).1 h))
+  refusal_shown n f h = ap (λ (x : Result Solved Refusal). shown_solved n x new) (report_determines r (Err f) ((S.refused (number_of f) (place_of f)).1 h))
 
-  by_cycle : (c : Contents) → grammar.contents_of t ≡ grammar.accepted c → (k : Cycle) → cycle_by cycles c.atoms (program c) ≡ k → shown_solved c.atoms r new ≡ shown_cycle cycles k jump lim c
-  by_cycle c e (cycle.Refused f) i = refusal_shown c.atoms f (cycle_refuses t (Plan (length old)) short (plan_good (length old) wide) c e f i)
-  by_cycle c e cycle.Nothing i =
+  by_cycle : (c : Contents) → grammar.contents_of t ≡ grammar.accepted c → (k : Result ⊤ Refusal) → cycle_by cycles c.atoms (program c) ≡ k → shown_solved c.atoms r new ≡ shown_cycle cycles k jump lim c
+  by_cycle c e (Err f) i = refusal_shown c.atoms f (cycle_refuses t (Plan (length old)) short (plan_good (length old) wide) c e f i)
+  by_cycle c e (Ok tt) i =
       let x = S.searching c (none_accepts t (Plan (length old)) short (plan_good (length old) wide) c e i) in
       let o = x.0 in
-      ap (λ (y : Solved). shown_solved c.atoms y new) x.1.result ∙ ap (shown_solved c.atoms (reported o)) x.1.plan
+      ap (λ (y : Result Solved Refusal). shown_solved c.atoms y new) x.1.result ∙ ap (shown_solved c.atoms (Ok (reported o))) x.1.plan
       ∙ shown_by c.atoms o.result o.choices o.skips o.passes old ∙ sym (ap (shown c.atoms) x.1.jumping)
 
   by_contents : (x : grammar.Outcome) → grammar.contents_of t ≡ x → shown_solved (atoms_in x) r new ≡ shown_contents cycles x jump lim
@@ -93,7 +92,7 @@ module _ (cycles : Bool) (t : List ℤ) (lim : ℕ) (old new : List ℕ) (r : So
   pub shown_solved_lem : shown_solved (atoms_in (grammar.contents_of t)) r new ≡ shown_for cycles jump t lim
   shown_solved_lem = by_contents (grammar.contents_of t) refl
 
-pub case_solved : (c : Case) → c ∈ cases → (old new : List ℕ) (r : Solved) → 256 ≤ length old → Solving c.words (record { cycles = c.cycles; limit = c.limit }) old new r
+pub case_solved : (c : Case) → c ∈ cases → (old new : List ℕ) (r : Result Solved Refusal) → 256 ≤ length old → Solving c.words (record { cycles = c.cycles; limit = c.limit }) old new r
     → shown_solved (atoms_in (grammar.contents_of c.words)) r new ≡ c.jumps
 unfolding as_reported
 case_solved c m old new r wide S =

@@ -5,7 +5,7 @@
 --   listed_for      the answer sets of an accepted table, by trying every interpretation, in 01's order; a refused one has no such list
 --   as_reported     the shared claim about the definitions, as one test: the answer sets, and both searches
 -- Assumes nothing.
-use Rattle.std.specs.Prelude.{ℕ, Bool, true, false, ◌&&◌, List, [], ◌∷◌, leb, ℤ, pos, negsuc, length}
+use Rattle.std.specs.Prelude.{ℕ, Bool, true, false, ◌&&◌, List, [], ◌∷◌, leb, ℤ, pos, negsuc, length, ⊤, Result, Ok, Err}
 use Rattle.std.proofs.Math.Option.{Option, none, some}
 use Rattle.meaning.specs.Foundedness.{same_list}
 use Rattle.meaning.specs.Enumerated.{answers_of}
@@ -16,8 +16,6 @@ use Rattle.results.specs.Results.{number_of, place_of}
 use Rattle.table.specs.Contents.{Contents, program}
 use Rattle.table.specs.Grammar as grammar
 use Rattle.depend.specs.Cycles.{cycle_by}
-use Rattle.depend.specs.declared.Cycle.{Cycle}
-use Rattle.depend.specs.declared.Cycle.TheVariants as cycle
 use Rattle.search.specs.Search.{Mode, jump, plain, solve}
 use Rattle.smaller.specs.Cyclic.{base_by}
 use Rattle.search.specs.Shown.{true_list, shown}
@@ -29,9 +27,9 @@ abbrev pub shown_refusal : Refusal → List ℕ
 shown_refusal f = 3 ∷ number_of f ∷ place_of f ∷ []
 
 -- the search on contents whose cycles are k
-abbrev pub shown_cycle : Bool → Cycle → Mode → ℕ → Contents → List ℕ
-shown_cycle cycles (cycle.Refused f) mode lim c = shown_refusal f
-shown_cycle cycles cycle.Nothing mode lim c = shown c.atoms (solve (base_by cycles (program c) c.atoms) mode lim)
+abbrev pub shown_cycle : Bool → Result ⊤ Refusal → Mode → ℕ → Contents → List ℕ
+shown_cycle cycles (Err f) mode lim c = shown_refusal f
+shown_cycle cycles (Ok tt) mode lim c = shown c.atoms (solve (base_by cycles (program c) c.atoms) mode lim)
 
 abbrev pub shown_contents : Bool → grammar.Outcome → Mode → ℕ → List ℕ
 shown_contents cycles (grammar.refused_for f) mode lim = shown_refusal f
@@ -42,9 +40,9 @@ shown_for cycles mode t lim = shown_contents cycles (grammar.contents_of t) mode
 
 -- ---- the answer sets, with no search
 
-abbrev pub listed_cycle : Cycle → Contents → Option (List (List ℕ))
-listed_cycle (cycle.Refused f) c = none
-listed_cycle cycle.Nothing c = some (answers_of (program c) c.atoms)
+abbrev pub listed_cycle : Result ⊤ Refusal → Contents → Option (List (List ℕ))
+listed_cycle (Err f) c = none
+listed_cycle (Ok tt) c = some (answers_of (program c) c.atoms)
 
 abbrev pub listed_contents : Bool → grammar.Outcome → Option (List (List ℕ))
 listed_contents cycles (grammar.refused_for f) = none
@@ -67,11 +65,11 @@ same_answers (some s) (some t) = same_lists s t
 
 -- ---- what a result and a later plan buffer show of a table with n atoms
 
-abbrev pub shown_solved : ℕ → Solved → List ℕ → List ℕ
-shown_solved n (solved.Answer k) new = 0 ∷ k.choices ∷ k.skips ∷ true_list n (plan_atoms n new)
-shown_solved n (solved.Nothing k) new = 1 ∷ k.choices ∷ k.skips ∷ []
-shown_solved n (solved.Limit k) new = 2 ∷ k.choices ∷ k.skips ∷ []
-shown_solved n (solved.Refused f) new = shown_refusal f
+abbrev pub shown_solved : ℕ → Result Solved Refusal → List ℕ → List ℕ
+shown_solved n (Ok (solved.Answer k)) new = 0 ∷ k.choices ∷ k.skips ∷ true_list n (plan_atoms n new)
+shown_solved n (Ok (solved.Nothing k)) new = 1 ∷ k.choices ∷ k.skips ∷ []
+shown_solved n (Ok (solved.Limit k)) new = 2 ∷ k.choices ∷ k.skips ∷ []
+shown_solved n (Err f) new = shown_refusal f
 
 -- the number of atoms that the words have; refused words have none
 abbrev pub atoms_in : grammar.Outcome → ℕ

@@ -11,14 +11,14 @@ use lib.Dec.{eqb, ltb}
 use lib.IntN.{ℤ, nat_abs}
 use lib.ListN.{length}
 use borrow.Author.Tests.{ne_eqb, lt-ltb}
+use Rattle.std.specs.Prelude.{Some, None}
 use Rattle.meaning.specs.Lists.{Is, ◌∈◌, any, has}
 use Rattle.meaning.specs.Program.{Literal, Rule, Program}
 use Rattle.meaning.specs.Dependency.{arc, Chain, stay, go}
 use Rattle.meaning.specs.Cycles.{via, mutually, head_cycle, aggregate_cycle, returns as returning}
 use Rattle.meaning.proofs.Tools.{clash, cases, or_false, eq_i, any_i, via_chain}
 use Rattle.layout.specs.Layout.{atoms}
-use Rattle.depend.specs.declared.Place.TheVariants.{Nowhere, At}
-use Rattle.depend.specs.Cycles.{full, more, wide, makes_arcs, adds_arcs, may_cross, may_return, or_later, lowest}
+use Rattle.depend.specs.Cycles.{full, more, wide, makes_arcs, adds_arcs, may_cross, may_return, may_close, cycle_test, or_later, lowest}
 
 -- ---- the tests of a list, by its length
 
@@ -60,11 +60,11 @@ not_any f l h x m = at (cases (f x))
     at (inl e) = absurd (clash (any_i f l m e) h)
     at (inr e) = e
 
-nowhere : (f : Rule → Bool) (k : ℕ) (P : Program) → ((r : Rule) → r ∈ P → f r ≡ false) → lowest f k P ≡ Nowhere
+nowhere : (f : Rule → Bool) (k : ℕ) (P : Program) → ((r : Rule) → r ∈ P → f r ≡ false) → lowest f k P ≡ None
 unfolding lowest
 nowhere f k [] h = refl
 nowhere f k (r ∷ P) h =
-    ap (λ (b : Bool). or_later b (At k) (lowest f (suc k) P)) (h r (Memᴰ.head refl)) ∙ nowhere f (suc k) P (λ s m. h s (Memᴰ.tail m))
+    ap (λ (b : Bool). or_later b (Some k) (lowest f (suc k) P)) (h r (Memᴰ.head refl)) ∙ nowhere f (suc k) P (λ s m. h s (Memᴰ.tail m))
 
 -- ---- head cycles: two different atoms of one head, and a chain of arcs between them
 
@@ -126,14 +126,14 @@ module _ (n : ℕ) (P : Program) where
       any_none (λ p. any (λ q. mutually n P p q) r.head) r.head
       (λ p. any_none (λ q. mutually n P p q) r.head (λ q. apart p q (λ v. stays (no_arc h) (via_chain (arc P) n p q v))))
 
-  pub no_head_cycle : may_cross P ≡ false → lowest (head_cycle n P) 1 P ≡ Nowhere
+  pub no_head_cycle : may_cross P ≡ false → lowest (head_cycle n P) 1 P ≡ None
   no_head_cycle h = at (cases (any wide P))
     where
       rest : (b : Bool) → Is b → b && any makes_arcs P ≡ false → any makes_arcs P ≡ false
       rest true i g = g
       rest false i g = absurd (clash i refl)
 
-      at : Is (any wide P) ⊎ (any wide P ≡ false) → lowest (head_cycle n P) 1 P ≡ Nowhere
+      at : Is (any wide P) ⊎ (any wide P ≡ false) → lowest (head_cycle n P) 1 P ≡ None
       at (inl e) = nowhere (head_cycle n P) 1 P (λ r m. unlinked (rest (any wide P) e h) r)
       at (inr e) = nowhere (head_cycle n P) 1 P (λ r m. narrow r (not_any wide P e r m))
 
@@ -148,5 +148,10 @@ module _ (n : ℕ) (P : Program) where
       at (p ∷ l) [] e = any_none (λ q. false) (p ∷ l) (λ q. refl)
       at (p ∷ l) (a ∷ m) e = absurd (clash refl e)
 
-  pub no_aggregate_cycle : may_return P ≡ false → lowest (aggregate_cycle n P) 1 P ≡ Nowhere
+  pub no_aggregate_cycle : may_return P ≡ false → lowest (aggregate_cycle n P) 1 P ≡ None
   no_aggregate_cycle h = nowhere (aggregate_cycle n P) 1 P (λ r m. alone r (not_any adds_arcs P h r m))
+
+  -- of either kind
+  pub no_cycle : (added : Bool) → may_close added P ≡ false → lowest (cycle_test added n P) 1 P ≡ None
+  no_cycle false h = no_head_cycle h
+  no_cycle true h = no_aggregate_cycle h

@@ -5,6 +5,7 @@ use mathlib.Core.List.Memᴰ
 use mathlib.Core.List.{List, [], ◌∷◌}
 use Prim.Native.Nat.{ℕ, suc}
 use lib.Dec.{eqb}
+use Rattle.std.specs.Prelude.{Option, Some, None}
 use Rattle.meaning.specs.Lists.{Is, ◌∈◌, any}
 use Rattle.meaning.specs.Program.{Element, Literal, Rule, Program, In, AtomsIn}
 use Rattle.meaning.specs.Dependency.{arc, added_arc, any_arc, stay, go, HeadCycle, AggregateCycle}
@@ -14,14 +15,13 @@ use Rattle.meaning.proofs.Cond.{if_lt_yes, if_lt_no}
 use Rattle.meaning.proofs.Rank.{added_i}
 use Rattle.meaning.proofs.Cycles.{head_cycle_lem, aggregate_cycle_lem}
 use Rattle.levels.specs.Levels.{Levels, up_to}
+use Rattle.reach.specs.Arcs.{arcs_of}
 use Rattle.reach.specs.Visits.{Part, Settled}
 use Rattle.reach.proofs.Inside.{below}
 use Rattle.reach.proofs.Graph.{arcs_low}
 use Rattle.reach.proofs.Settled.{settled_alone, settled_open}
-use Rattle.depend.specs.declared.Place.{Place}
-use Rattle.depend.specs.declared.Place.TheVariants.{Nowhere, At}
 use Rattle.depend.specs.Circles.{alike, Named}
-use Rattle.depend.specs.Cycles.{crossed, returned, or_later, lowest}
+use Rattle.depend.specs.Cycles.{crossed, returned, closes, cycle_test, or_later, lowest}
 use Rattle.depend.proofs.Naming.{alike_via}
 use Rattle.depend.proofs.Exact.{lowest_none}
 
@@ -36,8 +36,8 @@ same_lowest : (f g : Rule → Bool) (k : ℕ) (P : Program) → ((r : Rule) → 
 unfolding lowest
 same_lowest f g k [] h = refl
 same_lowest f g k (r ∷ P) h =
-    ap (λ (b : Bool). or_later b (At k) (lowest f (suc k) P)) (h r (Memᴰ.head refl))
-    ∙ ap (λ (p : Place). or_later (g r) (At k) p) (same_lowest f g (suc k) P (λ s m. h s (Memᴰ.tail m)))
+    ap (λ (b : Bool). or_later b (Some k) (lowest f (suc k) P)) (h r (Memᴰ.head refl))
+    ∙ ap (λ (p : Option ℕ). or_later (g r) (Some k) p) (same_lowest f g (suc k) P (λ s m. h s (Memᴰ.tail m)))
 
 module _ (n : ℕ) (P : Program) (A : AtomsIn n P) where
   -- ---- by names
@@ -78,19 +78,24 @@ module _ (n : ℕ) (P : Program) (A : AtomsIn n P) where
             (λ l k. same_any (λ (e : Element). alike x e.atom p) (λ (e : Element). X e.atom p) l.aggregate.elements
             (λ e j. alike_via true n P A x N e.atom p ((A r m).elems l k e j) ((A r m).heads p h) ∙ met (X e.atom p) (X p e.atom) (there r m p h l k e j))))
 
+    -- of either kind
+    pub closes_named : (added : Bool) → Named (arcs_of added P) n n x → lowest (closes added (alike x)) 1 P ≡ lowest (cycle_test added (suc n) P) 1 P
+    closes_named false N = crossed_named N
+    closes_named true N = returned_named N
+
   -- ---- where all atoms are settled
 
   module _ (S : Levels) (all : Part (up_to n) S) where
     inside : (p : ℕ) → In n p → Is (S p)
     inside p i = all p (if_lt_yes 0 p _ _ i.0 ∙ if_lt_no n p _ _ i.1)
 
-    pub settled_8 : Settled (arc P) S → lowest (head_cycle (suc n) P) 1 P ≡ Nowhere
+    pub settled_8 : Settled (arc P) S → lowest (head_cycle (suc n) P) 1 P ≡ None
     settled_8 s = (lowest_none P (head_cycle (suc n) P) (HeadCycle P) (head_cycle_lem (suc n) P (below n P A))).1 free
       where
         free : (r : Rule) → r ∈ P → HeadCycle P r → ⊥
         free r m c = c.differ (settled_alone (arc P) S s c.first c.second (inside c.first ((A r m).heads c.first c.first_in)) (record { there = c.there; back = c.back }))
 
-    pub settled_9 : Settled (any_arc P) S → lowest (aggregate_cycle (suc n) P) 1 P ≡ Nowhere
+    pub settled_9 : Settled (any_arc P) S → lowest (aggregate_cycle (suc n) P) 1 P ≡ None
     unfolding any_arc
     settled_9 s = (lowest_none P (aggregate_cycle (suc n) P) (AggregateCycle P) (aggregate_cycle_lem (suc n) P (below n P A))).1 free
       where
@@ -98,3 +103,8 @@ module _ (n : ℕ) (P : Program) (A : AtomsIn n P) where
         free r m c =
             settled_open (any_arc P) S s c.from c.elem.atom (inside c.from ((A r m).heads c.from c.from_in))
             (or_r (arc P c.from c.elem.atom) (added_arc P c.from c.elem.atom) (added_i m c.from_in c.lit_in c.elem_in)) c.back
+
+    -- of either kind
+    pub settled_none : (added : Bool) → Settled (arcs_of added P) S → lowest (cycle_test added (suc n) P) 1 P ≡ None
+    settled_none false s = settled_8 s
+    settled_none true s = settled_9 s

@@ -1,7 +1,7 @@
 // Which atoms reach each other: for each atom a name of its circle. Atoms with the same name are those that reach each other. Each circle is found once,
 // by a visit from its lowest atom and a walk back; atoms that lie on no cycle keep a name of their own. Meaning: `specs/Circles.antt`.
 ghost use Rattle.std.specs.Prelude.{◌≡◌, cond, ◌+◌, ◌-◌, ◌≤◌, ◌<◌, length, set};
-ghost use Rattle.layout.specs.Layout.{program_of, Laid};
+ghost use Rattle.layout.specs.Accepted.{program_in};
 ghost use Rattle.heads.specs.Heads.{Listed};
 ghost use Rattle.levels.specs.View.{row};
 ghost use Rattle.reach.specs.Arcs.{arcs_of};
@@ -9,7 +9,7 @@ ghost use Rattle.reach.specs.Visits.{Settled};
 ghost use Rattle.depend.specs.Circles.{alike, Apart, Renamed, Named, Final};
 
 use heads::Lists;
-use layout::Table;
+use layout::Accepted;
 use reach::{back, marks, settling};
 
 // The name of an atom's circle is one of its atoms, less one.
@@ -20,10 +20,8 @@ pub fn apart() -> Names
     ensures { Apart 256 result }
 {
     let mut names = [0u8; 256];
-    let mut i: usize = 0;
-    while i < 256 {
+    for i in 0..256 {
         names[i] = i as u8;
-        i += 1;
     }
     names
 }
@@ -56,10 +54,8 @@ pub fn name(these: [u64; 4], n: usize, p: usize, names: &mut Names)
     requires { (n ≤ 256) × (1 ≤ p) × (p ≤ 256) × (length names.old ≡ 256) }
     ensures { Renamed 0 n (row these) p names.old names.new }
 {
-    let mut l = n;
-    while 0 < l {
-        name_one(these, l, p, names);
-        l -= 1;
+    for i in (0..n).rev() {
+        name_one(these, i + 1, p, names);
     }
 }
 
@@ -67,17 +63,15 @@ pub fn name(these: [u64; 4], n: usize, p: usize, names: &mut Names)
 // such atoms is alone on its circle. Where all that an atom reaches is done with or on its circle, the circle is done with too; else those that it reaches
 // are tried, from the last on.
 pub fn find_one(
-    t: &[i32],
-    tb: Table,
+    t: &Accepted,
     lists: &Lists,
     added: bool,
     settled: [u64; 4],
     p: usize,
     names: &mut Names,
 ) -> [u64; 4]
-    requires { Laid t.now tb × Listed t.now tb lists.now × Final (arcs_of added (program_of t.now tb)) tb.atoms names.old (row settled) × (p < tb.atoms)
-        × Named (arcs_of added (program_of t.now tb)) tb.atoms p names.old }
-    ensures { Named (arcs_of added (program_of t.now tb)) tb.atoms (p + 1) names.new × Final (arcs_of added (program_of t.now tb)) tb.atoms names.new (row result) }
+    requires { Listed t.now.words.now t.now.places lists.now × Final (arcs_of added (program_in t.now)) t.now.places.atoms names.old (row settled) × (p < t.now.places.atoms) × Named (arcs_of added (program_in t.now)) t.now.places.atoms p names.old }
+    ensures { Named (arcs_of added (program_in t.now)) t.now.places.atoms (p + 1) names.new × Final (arcs_of added (program_in t.now)) t.now.places.atoms names.new (row result) }
 {
     let q = p + 1;
     if levels::has(settled, q) {
@@ -86,34 +80,32 @@ pub fn find_one(
     if names[p] as usize != p {
         return settled;
     }
-    let tried = settling::settle(t, tb, lists, added, q, settled);
+    let tried = settling::settle(t, lists, added, q, settled);
     if levels::has(tried, q) {
         return tried;
     }
     let mut list = [0u8; 256];
-    let round = back::circle(t, tb, lists, added, q, &mut list);
+    let round = back::circle(t, lists, added, q, &mut list);
     let these = round.marks;
-    let n = tb.atoms;
+    let n = t.places.atoms;
     name(these, n, q, names);
-    let many = round.count;
+    let reached = &list[..round.count];
     let all = levels::union(these, settled);
-    if marks::listed_in(&list, many, all) {
+    if marks::listed_in(reached, all) {
         return all;
     }
-    settling::along(t, tb, lists, added, &list, many, settled)
+    settling::along(t, lists, added, reached, settled)
 }
 
 // The circles of all atoms named.
-pub fn find(t: &[i32], tb: Table, lists: &Lists, added: bool, settled: [u64; 4], names: &mut Names)
-    requires { Laid t.now tb × Listed t.now tb lists.now × Settled (arcs_of added (program_of t.now tb)) (row settled) × (length names.old ≡ 256) × Apart 256 names.old }
-    ensures { Named (arcs_of added (program_of t.now tb)) tb.atoms tb.atoms names.new }
+pub fn find(t: &Accepted, lists: &Lists, added: bool, settled: [u64; 4], names: &mut Names)
+    requires { Listed t.now.words.now t.now.places lists.now × Settled (arcs_of added (program_in t.now)) (row settled) × (length names.old ≡ 256) × Apart 256 names.old }
+    ensures { Named (arcs_of added (program_in t.now)) t.now.places.atoms t.now.places.atoms names.new }
 {
-    let n = tb.atoms;
+    let n = t.places.atoms;
     let mut done = settled;
-    let mut p: usize = 0;
-    while p < n {
-        let next = find_one(t, tb, lists, added, done, p, names);
+    for p in 0..n {
+        let next = find_one(t, lists, added, done, p, names);
         done = next;
-        p += 1;
     }
 }

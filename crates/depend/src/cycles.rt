@@ -3,14 +3,15 @@
 // out no cycle: `proofs/Skipped.antt`.
 ghost use Rattle.std.specs.Prelude.{◌≡◌, ◌&&◌, map, ◌≤◌, length};
 ghost use Rattle.meaning.specs.Lists.{any};
-ghost use Rattle.layout.specs.Layout.{past_at, pos_at, aggs_at, atoms, Members, pairs, literal_of, rule_at, RuleLies, program_of, Laid};
+ghost use Rattle.layout.specs.Accepted.{program_in, rule_in, RuleIn};
+ghost use Rattle.layout.specs.Layout.{past_at, pos_at, aggs_at, atoms, Members, pairs, literal_of, rule_at};
 ghost use Rattle.reach.specs.Arcs.{Elements};
 ghost use Rattle.depend.specs.Circles.{alike};
-ghost use Rattle.depend.specs.Cycles.{full, wide, makes_arcs, adds_arcs, may_cross, may_return, crossing, crossed, returning, returned, lowest};
+ghost use Rattle.depend.specs.Cycles.{full, wide, makes_arcs, adds_arcs, may_cross, may_return, may_close, crossing, crossed, returning, returned, closes, lowest};
 
+use crate::circles;
 use crate::circles::Names;
-use crate::{Place, circles};
-use layout::Table;
+use layout::Accepted;
 use reach::arcs;
 
 // ---- whether there can be a cycle
@@ -46,6 +47,7 @@ pub fn makes_arcs(t: &[i32], at: usize) -> bool
 }
 
 // Whether it has a head and aggregate literals.
+// Stays: it differs from `makes_arcs` in the list that it asks; the test of two lists is `linked` already.
 pub fn adds_arcs(t: &[i32], at: usize) -> bool
     requires { (past_at t.now at ≤ length t.now) × (aggs_at t.now at ≤ length t.now) × (past_at t.now (aggs_at t.now at) ≤ length t.now) }
     ensures { result ≡ adds_arcs (rule_at t.now at) }
@@ -57,42 +59,42 @@ pub fn adds_arcs(t: &[i32], at: usize) -> bool
 }
 
 // Whether there can be a head cycle: a head of two atoms, and an arc.
-pub fn may_cross(t: &[i32], tb: Table) -> bool
-    requires { Laid t.now tb }
-    ensures { result ≡ may_cross (program_of t.now tb) }
+pub fn may_cross(t: &Accepted) -> bool
+    ensures { result ≡ may_cross (program_in t.now) }
 {
     let mut two = false;
     let mut arcs = false;
-    let mut at = tb.first;
-    let mut left = tb.rules;
-    while 0 < left {
-        let wide = is_wide(t, at);
-        let makes = makes_arcs(t, at);
-        two = wide | two;
-        arcs = makes | arcs;
-        let next = layout::past_rule(t, at);
-        at = next;
-        left -= 1;
+    let mut at = t.places.first;
+    for _ in 0..t.places.rules {
+        two |= is_wide(t.words, at);
+        arcs |= makes_arcs(t.words, at);
+        at = layout::past_rule(t.words, at);
     }
-    two & arcs
+    two && arcs
 }
 
 // Whether there can be an aggregate cycle: an arc that is added.
-pub fn may_return(t: &[i32], tb: Table) -> bool
-    requires { Laid t.now tb }
-    ensures { result ≡ may_return (program_of t.now tb) }
+pub fn may_return(t: &Accepted) -> bool
+    ensures { result ≡ may_return (program_in t.now) }
 {
-    let mut at = tb.first;
-    let mut left = tb.rules;
-    while 0 < left {
-        if adds_arcs(t, at) {
+    let mut at = t.places.first;
+    for _ in 0..t.places.rules {
+        if adds_arcs(t.words, at) {
             return true;
         }
-        let next = layout::past_rule(t, at);
-        at = next;
-        left -= 1;
+        at = layout::past_rule(t.words, at);
     }
     false
+}
+
+// Whether there can be a cycle of the kind: a head cycle, or where `added` an aggregate cycle.
+pub fn may_close(t: &Accepted, added: bool) -> bool
+    ensures { result ≡ may_close added (program_in t.now) }
+{
+    if added {
+        return may_return(t);
+    }
+    may_cross(t)
 }
 
 // ---- which rule has one
@@ -113,15 +115,7 @@ pub fn crosses(names: &Names, head: &[i32], p: usize) -> bool
     requires { Members 256 head.now × (1 ≤ p) × (p ≤ 256) }
     ensures { result ≡ any (λ q. crossing (alike names.now) p q) (atoms head.now) }
 {
-    let mut found = false;
-    let mut i = head.len();
-    while 0 < i {
-        i -= 1;
-        let q = words::atom(head, i);
-        let hit = both_ways(names, p, q);
-        found = hit | found;
-    }
-    found
+    head.iter().any(|q| both_ways(names, p, words::size(*q)))
 }
 
 // Whether two atoms of a head do.
@@ -129,15 +123,7 @@ pub fn crossed(names: &Names, head: &[i32]) -> bool
     requires { Members 256 head.now }
     ensures { result ≡ crossed (alike names.now) (atoms head.now) }
 {
-    let mut found = false;
-    let mut i = head.len();
-    while 0 < i {
-        i -= 1;
-        let p = words::atom(head, i);
-        let hit = crosses(names, head, p);
-        found = hit | found;
-    }
-    found
+    head.iter().any(|p| crosses(names, head, words::size(*p)))
 }
 
 // Whether the atom of one of the pairs reaches p.
@@ -145,99 +131,58 @@ pub fn element_reaches(names: &Names, l: &[i32], p: usize) -> bool
     requires { Elements 256 l.now × (1 ≤ p) × (p ≤ 256) }
     ensures { result ≡ returning (alike names.now) p (pairs l.now) }
 {
-    let mut found = false;
-    let mut i = l.len() / 2;
-    while 0 < i {
-        i -= 1;
-        let place = 2 * i + 1;
-        let q = words::atom(l, place);
-        let hit = circles::same(names, q, p);
-        found = hit | found;
+    for i in 0..l.len() / 2 {
+        if circles::same(names, words::atom(l, 2 * i + 1), p) {
+            return true;
+        }
     }
-    found
+    false
 }
 
 // Whether an element of one of the aggregate literals reaches p.
-pub fn literal_reaches(t: &[i32], tb: Table, names: &Names, l: &[i32], p: usize) -> bool
-    requires { Laid t.now tb × Members tb.aggregates l.now × (1 ≤ p) × (p ≤ 256) }
-    ensures { result ≡ any (λ u. returning (alike names.now) p u.aggregate.elements) (map (literal_of t.now) l.now) }
+pub fn literal_reaches(t: &Accepted, names: &Names, l: &[i32], p: usize) -> bool
+    requires { Members t.now.places.aggregates l.now × (1 ≤ p) × (p ≤ 256) }
+    ensures { result ≡ any (λ u. returning (alike names.now) p u.aggregate.elements) (map (literal_of t.now.words.now) l.now) }
 {
-    let mut found = false;
-    let mut i = l.len();
-    while 0 < i {
-        i -= 1;
-        let j = words::atom(l, i);
-        let pairs = arcs::elements_of(t, tb, j);
-        let hit = element_reaches(names, pairs, p);
-        found = hit | found;
-    }
-    found
+    l.iter().any(|j| {
+        let pairs = arcs::elements_of(t, words::size(*j));
+        element_reaches(names, pairs, p)
+    })
 }
 
 // Whether one of them reaches an atom of a head.
-pub fn head_reached(t: &[i32], tb: Table, names: &Names, head: &[i32], l: &[i32]) -> bool
-    requires { Laid t.now tb × Members 256 head.now × Members tb.aggregates l.now }
-    ensures { result ≡ returned (alike names.now) (atoms head.now) (map (literal_of t.now) l.now) }
+pub fn head_reached(t: &Accepted, names: &Names, head: &[i32], l: &[i32]) -> bool
+    requires { Members 256 head.now × Members t.now.places.aggregates l.now }
+    ensures { result ≡ returned (alike names.now) (atoms head.now) (map (literal_of t.now.words.now) l.now) }
 {
-    let mut found = false;
-    let mut i = head.len();
-    while 0 < i {
-        i -= 1;
-        let p = words::atom(head, i);
-        let hit = literal_reaches(t, tb, names, l, p);
-        found = hit | found;
+    head.iter()
+        .any(|p| literal_reaches(t, names, l, words::size(*p)))
+}
+
+// Whether the rule that begins at `at` has two head atoms that reach each other, or where `added` adds an arc that lies on a cycle.
+pub fn closes(t: &Accepted, added: bool, names: &Names, at: usize) -> bool
+    requires { RuleIn t.now at }
+    ensures { result ≡ closes added (alike names.now) (rule_in t.now at) }
+{
+    let head = layout::part(t.words, at);
+    if !added {
+        return crossed(names, head);
     }
-    found
+    let place = layout::literals_at(t.words, at);
+    let l = layout::part(t.words, place);
+    head_reached(t, names, head, l)
 }
 
-// Whether the rule that begins at `at` adds an arc that lies on a cycle.
-pub fn adds(t: &[i32], tb: Table, names: &Names, at: usize) -> bool
-    requires { Laid t.now tb × RuleLies tb.atoms tb.aggregates t.now at }
-    ensures { result ≡ returned (alike names.now) (rule_at t.now at).head (rule_at t.now at).aggs }
+// The lowest such rule.
+pub fn first(t: &Accepted, added: bool, names: &Names) -> Option<usize>
+    ensures { result ≡ lowest (closes added (alike names.now)) 1 (program_in t.now) }
 {
-    let place = layout::literals_at(t, at);
-    let head = layout::part(t, at);
-    let l = layout::part(t, place);
-    head_reached(t, tb, names, head, l)
-}
-
-// The lowest rule with two head atoms that reach each other.
-pub fn first_head(t: &[i32], tb: Table, names: &Names) -> Place
-    requires { Laid t.now tb }
-    ensures { result ≡ lowest (λ u. crossed (alike names.now) u.head) 1 (program_of t.now tb) }
-{
-    let mut at = tb.first;
-    let mut left = tb.rules;
-    let mut number: usize = 1;
-    while 0 < left {
-        let head = layout::part(t, at);
-        if crossed(names, head) {
-            return Place::At(number);
+    let mut at = t.places.first;
+    for k in 0..t.places.rules {
+        if closes(t, added, names, at) {
+            return Some(k + 1);
         }
-        let next = layout::past_rule(t, at);
-        at = next;
-        number += 1;
-        left -= 1;
+        at = layout::past_rule(t.words, at);
     }
-    Place::Nowhere
-}
-
-// The lowest rule that adds an arc that lies on a cycle.
-pub fn first_aggregate(t: &[i32], tb: Table, names: &Names) -> Place
-    requires { Laid t.now tb }
-    ensures { result ≡ lowest (λ u. returned (alike names.now) u.head u.aggs) 1 (program_of t.now tb) }
-{
-    let mut at = tb.first;
-    let mut left = tb.rules;
-    let mut number: usize = 1;
-    while 0 < left {
-        if adds(t, tb, names, at) {
-            return Place::At(number);
-        }
-        let next = layout::past_rule(t, at);
-        at = next;
-        number += 1;
-        left -= 1;
-    }
-    Place::Nowhere
+    None
 }

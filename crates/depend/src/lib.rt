@@ -6,99 +6,66 @@
 #![tactic(auto)]
 
 ghost use Rattle.std.specs.Prelude.{◌≡◌, suc};
-ghost use Rattle.meaning.specs.Cycles.{head_cycle, aggregate_cycle};
-ghost use Rattle.layout.specs.Layout.{program_of, Laid};
+ghost use Rattle.meaning.specs.Cycles.{aggregate_cycle};
+ghost use Rattle.layout.specs.Accepted.{program_in};
 ghost use Rattle.heads.specs.Heads.{Listed};
-ghost use Rattle.depend.specs.Cycles.{lowest, ninth, head_cycle_by, cycle_by};
+ghost use Rattle.depend.specs.Cycles.{lowest, ninth, cycle_test, head_cycle_by, cycle_by};
 
 use heads::Lists;
-use layout::Table;
+use layout::Accepted;
 use reach::settling;
 use results::Refusal;
 
 mod circles;
 mod cycles;
 
-// The lowest rule of a kind, from 1, if there is one.
-#[derive(Clone, Copy)]
-pub enum Place {
-    Nowhere,
-    At(usize),
-}
-
-// Refusal 8 or 9, or nothing.
-#[derive(Clone, Copy)]
-pub enum Cycle {
-    Nothing,
-    Refused(Refusal),
-}
-
 // The refusal of an accepted table for its cycles: 8 before 9, each at its lowest rule; where head cycles are taken, 9 alone. `lists` are the table's
 // lists of rules by head.
-pub fn refusal(t: &[i32], tb: Table, cycles: bool, lists: &Lists) -> Cycle
-    requires { Laid t.now tb × Listed t.now tb lists.now }
-    ensures { result ≡ cycle_by cycles tb.atoms (program_of t.now tb) }
+pub fn refusal(t: &Accepted, cycles: bool, lists: &Lists) -> Result<(), Refusal>
+    requires { Listed t.now.words.now t.now.places lists.now }
+    ensures { result ≡ cycle_by cycles t.now.places.atoms (program_in t.now) }
 {
-    let head = lowest_eighth(t, tb, cycles, lists);
-    match head {
-        Place::At(rule) => Cycle::Refused(Refusal::HeadCycle(rule)),
-        Place::Nowhere => ninth(t, tb, lists),
+    match lowest_eighth(t, cycles, lists) {
+        Some(rule) => Err(Refusal::HeadCycle(rule)),
+        None => ninth(t, lists),
     }
 }
 
 // The lowest rule that 8 is given for: none where head cycles are taken.
-fn lowest_eighth(t: &[i32], tb: Table, cycles: bool, lists: &Lists) -> Place
-    requires { Laid t.now tb × Listed t.now tb lists.now }
-    ensures { result ≡ lowest (head_cycle_by cycles (suc tb.atoms) (program_of t.now tb)) 1 (program_of t.now tb) }
+fn lowest_eighth(t: &Accepted, cycles: bool, lists: &Lists) -> Option<usize>
+    requires { Listed t.now.words.now t.now.places lists.now }
+    ensures { result ≡ lowest (head_cycle_by cycles (suc t.now.places.atoms) (program_in t.now)) 1 (program_in t.now) }
 {
     if cycles {
-        return Place::Nowhere;
+        return None;
     }
-    lowest_head(t, tb, lists)
+    lowest_of(t, false, lists)
 }
 
 // Refusal 9 at its lowest rule, or nothing. It is asked at one place, so that the compiler lets what it takes share the memory of 8.
-fn ninth(t: &[i32], tb: Table, lists: &Lists) -> Cycle
-    requires { Laid t.now tb × Listed t.now tb lists.now }
-    ensures { result ≡ ninth (lowest (aggregate_cycle (suc tb.atoms) (program_of t.now tb)) 1 (program_of t.now tb)) }
+fn ninth(t: &Accepted, lists: &Lists) -> Result<(), Refusal>
+    requires { Listed t.now.words.now t.now.places lists.now }
+    ensures { result ≡ ninth (lowest (aggregate_cycle (suc t.now.places.atoms) (program_in t.now)) 1 (program_in t.now)) }
 {
-    let aggregate = lowest_aggregate(t, tb, lists);
-    match aggregate {
-        Place::At(rule) => Cycle::Refused(Refusal::AggregateCycle(rule)),
-        Place::Nowhere => Cycle::Nothing,
+    match lowest_of(t, true, lists) {
+        Some(rule) => Err(Refusal::AggregateCycle(rule)),
+        None => Ok(()),
     }
 }
 
-// The lowest rule with a head cycle.
-fn lowest_head(t: &[i32], tb: Table, lists: &Lists) -> Place
-    requires { Laid t.now tb × Listed t.now tb lists.now }
-    ensures { result ≡ lowest (head_cycle (suc tb.atoms) (program_of t.now tb)) 1 (program_of t.now tb) }
+// The lowest rule with a head cycle, or where `added` the lowest that adds an arc of an aggregate cycle.
+fn lowest_of(t: &Accepted, added: bool, lists: &Lists) -> Option<usize>
+    requires { Listed t.now.words.now t.now.places lists.now }
+    ensures { result ≡ lowest (cycle_test added (suc t.now.places.atoms) (program_in t.now)) 1 (program_in t.now) }
 {
-    if !cycles::may_cross(t, tb) {
-        return Place::Nowhere;
+    if !cycles::may_close(t, added) {
+        return None;
     }
-    let settled = settling::settled(t, tb, lists, false);
-    if settling::everything(settled, tb) {
-        return Place::Nowhere;
+    let settled = settling::settled(t, lists, added);
+    if settling::everything(settled, t.places) {
+        return None;
     }
     let mut names = circles::apart();
-    circles::find(t, tb, lists, false, settled, &mut names);
-    cycles::first_head(t, tb, &names)
-}
-
-// The lowest rule that adds an arc of an aggregate cycle.
-fn lowest_aggregate(t: &[i32], tb: Table, lists: &Lists) -> Place
-    requires { Laid t.now tb × Listed t.now tb lists.now }
-    ensures { result ≡ lowest (aggregate_cycle (suc tb.atoms) (program_of t.now tb)) 1 (program_of t.now tb) }
-{
-    if !cycles::may_return(t, tb) {
-        return Place::Nowhere;
-    }
-    let settled = settling::settled(t, tb, lists, true);
-    if settling::everything(settled, tb) {
-        return Place::Nowhere;
-    }
-    let mut names = circles::apart();
-    circles::find(t, tb, lists, true, settled, &mut names);
-    cycles::first_aggregate(t, tb, &names)
+    circles::find(t, lists, added, settled, &mut names);
+    cycles::first(t, added, &names)
 }

@@ -1,8 +1,10 @@
 -- The promise of `saucepebbly_relax` has one answer only. Assumes nothing.
 use mathlib.Core.Path.{◌≡◌, sym, ◌∙◌, ap}
 use mathlib.Core.List.{List}
+use Rattle.std.specs.Prelude.{Result}
 use Prim.Native.Nat.{ℕ}
 use lib.IntN.{ℤ}
+use Rattle.results.specs.declared.Refusal.{Refusal}
 use Rattle.results.specs.declared.Relaxed.{Relaxed}
 use Rattle.relaxer.proofs.Unique.{relaxing_unique}
 use Rattle.reports.specs.Report.{ask_of, reported}
@@ -15,5 +17,5 @@ relax_unique_in_c t mode lim list plan report list' plan' told list'' plan'' tol
       a.kind ∙ ap relax_kind u.0 ∙ sym b.kind,
       u.1,
       u.2,
-      a.report ∙ ap (λ (r : Relaxed). reported (relax_first r) (relax_second r) report) u.0 ∙ sym b.report,
+      a.report ∙ ap (λ (r : Result Relaxed Refusal). reported (relax_first r) (relax_second r) report) u.0 ∙ sym b.report,
     )

@@ -1,11 +1,13 @@
 -- Four stores make the report of a listing, where there is room; and the promise of `saucepebbly_list` has one answer only. Assumes nothing.
 use mathlib.Core.Path.{◌≡◌, refl, sym, ◌∙◌, ap}
 use mathlib.Core.List.{List, [], ◌∷◌}
+use Rattle.std.specs.Prelude.{Result}
 use Prim.Native.Nat.{ℕ, ◌≤◌, ◌<◌}
 use native.Mathlib.Omega.{arith}
 use lib.IntN.{ℤ}
 use lib.ListN.{length, get_or, set}
 use Rattle.results.specs.Results.{list_kind}
+use Rattle.results.specs.declared.Refusal.{Refusal}
 use Rattle.results.specs.declared.Listed.{Listed}
 use Rattle.lister.proofs.Unique.{lists_unique}
 use Rattle.reports.specs.Report.{ask_of}
@@ -36,5 +38,5 @@ list_unique_in_c t mode lim old report new new' told told' k k' a b =
     let u = lists_unique t (ask_of mode lim) old new new' a.result b.result a.listing b.listing in (
       a.kind ∙ ap list_kind u.0 ∙ sym b.kind,
       u.1,
-      a.report ∙ ap (λ (r : Listed). four_written (numbers_of r) report) u.0 ∙ sym b.report,
+      a.report ∙ ap (λ (r : Result Listed Refusal). four_written (numbers_of r) report) u.0 ∙ sym b.report,
     )

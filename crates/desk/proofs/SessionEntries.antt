@@ -1,10 +1,11 @@
 -- The promises of the entries of a session have one answer only each. Assumes nothing.
 use mathlib.Core.Path.{◌≡◌, sym, ◌∙◌, ap}
 use mathlib.Core.List.{List}
+use Rattle.std.specs.Prelude.{Result, ⊤}
 use Prim.Native.Nat.{ℕ}
 use lib.IntN.{ℤ}
 use Rattle.results.specs.Results.{kind_of, pinned_kind}
-use Rattle.results.specs.declared.Pinned.{Pinned}
+use Rattle.results.specs.declared.Refusal.{Refusal}
 use Rattle.solver.specs.declared.Solution.{Solution}
 use Rattle.sessions.specs.Sessions.{Call}
 use Rattle.pins.proofs.Unique.{opening_unique, changing_unique, plans_unique}
@@ -17,7 +18,7 @@ opens_unique t mode old new new' report told told' k k' a b =
     let u = opening_unique (mode_of mode) t old new new' a.result b.result a.opening b.opening in (
       a.kind ∙ ap pinned_kind u.0 ∙ sym b.kind,
       u.1,
-      a.report ∙ ap (λ (r : Pinned). reported (changed_first r) (changed_second r) report) u.0 ∙ sym b.report,
+      a.report ∙ ap (λ (r : Result ⊤ Refusal). reported (changed_first r) (changed_second r) report) u.0 ∙ sym b.report,
     )
 
 pub changes_unique : (call : Call) (old new new' : List ℤ) (report told told' : List ℕ) (k k' : ℕ) → Changes call old new report told k → Changes call old new' report told' k'
@@ -26,7 +27,7 @@ changes_unique call old new new' report told told' k k' a b =
     let u = changing_unique call old new new' a.result b.result a.changing b.changing in (
       a.kind ∙ ap pinned_kind u.0 ∙ sym b.kind,
       u.1,
-      a.report ∙ ap (λ (r : Pinned). reported (changed_first r) (changed_second r) report) u.0 ∙ sym b.report,
+      a.report ∙ ap (λ (r : Result ⊤ Refusal). reported (changed_first r) (changed_second r) report) u.0 ∙ sym b.report,
     )
 
 pub plans_unique_in_c : (s : List ℤ) (lim : ℕ) (old report whys new new' told told' shown shown' : List ℕ) (k k' : ℕ) → PlansInC s lim old new report told whys shown k → PlansInC s lim old new' report told' whys shown' k'

@@ -1,9 +1,10 @@
 -- The promises of `saucepebbly_store` and `saucepebbly_restore` have one answer only each. Assumes nothing.
 use mathlib.Core.Path.{◌≡◌, sym, ◌∙◌, ap}
 use mathlib.Core.List.{List}
+use Rattle.std.specs.Prelude.{Result}
 use Prim.Native.Nat.{ℕ}
 use lib.IntN.{ℤ}
-use Rattle.results.specs.declared.Written.{Written}
+use Rattle.results.specs.declared.Refusal.{Refusal}
 use Rattle.stored.proofs.Unique.{stores_unique, restores_unique}
 use Rattle.reports.specs.Report.{reported}
 use Rattle.desk.specs.Reading.{read_kind, read_first, read_second}
@@ -15,7 +16,7 @@ store_unique_in_c words old new new' report told told' k k' a b =
     let u = stores_unique words old new new' a.result b.result a.stores b.stores in (
       a.kind ∙ ap read_kind u.0 ∙ sym b.kind,
       u.1,
-      a.report ∙ ap (λ (r : Written). reported (read_first r) (read_second r) report) u.0 ∙ sym b.report,
+      a.report ∙ ap (λ (r : Result ℕ Refusal). reported (read_first r) (read_second r) report) u.0 ∙ sym b.report,
     )
 
 pub restore_unique_in_c : (bytes : List ℕ) (old new new' : List ℤ) (report told told' : List ℕ) (k k' : ℕ) → RestoresTable bytes old new report told k → RestoresTable bytes old new' report told' k'
@@ -24,5 +25,5 @@ restore_unique_in_c bytes old new new' report told told' k k' a b =
     let u = restores_unique bytes old new new' a.result b.result a.restores b.restores in (
       a.kind ∙ ap read_kind u.0 ∙ sym b.kind,
       u.1,
-      a.report ∙ ap (λ (r : Written). reported (read_first r) (read_second r) report) u.0 ∙ sym b.report,
+      a.report ∙ ap (λ (r : Result ℕ Refusal). reported (read_first r) (read_second r) report) u.0 ∙ sym b.report,
     )

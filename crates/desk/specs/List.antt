@@ -3,7 +3,7 @@
 --   counted_in, refused_in, numbers_of   the number listed, choices, skips and passes; of a refusal its number and place, and twice 0
 --   four_written                       a lent report afterwards: the four numbers at its front, if it has four places; else nothing is written
 -- Assumes nothing.
-use Rattle.std.specs.Prelude.{◌≡◌, List, [], ◌∷◌, ◌++◌, ℕ, ℤ}
+use Rattle.std.specs.Prelude.{◌≡◌, List, [], ◌∷◌, ◌++◌, ℕ, ℤ, Result, Ok, Err}
 use Rattle.results.specs.Results.{number_of, place_of, list_kind}
 use Rattle.results.specs.declared.Refusal.{Refusal}
 use Rattle.results.specs.declared.Counts.{Counts}
@@ -18,11 +18,11 @@ counted_in m k = narrow m ∷ k.choices ∷ k.skips ∷ k.passes ∷ []
 abbrev pub refused_in : Refusal → List ℕ
 refused_in f = number_of f ∷ narrow (place_of f) ∷ 0 ∷ 0 ∷ []
 
-abbrev pub numbers_of : Listed → List ℕ
-numbers_of (listed.Complete m k) = counted_in m k
-numbers_of (listed.Full m k) = counted_in m k
-numbers_of (listed.Limit m k) = counted_in m k
-numbers_of (listed.Refused f) = refused_in f
+abbrev pub numbers_of : Result Listed Refusal → List ℕ
+numbers_of (Ok (listed.Complete m k)) = counted_in m k
+numbers_of (Ok (listed.Full m k)) = counted_in m k
+numbers_of (Ok (listed.Limit m k)) = counted_in m k
+numbers_of (Err f) = refused_in f
 
 abbrev pub four_written : List ℕ → List ℕ → List ℕ
 four_written four [] = []
@@ -32,7 +32,7 @@ four_written four (a ∷ b ∷ c ∷ []) = a ∷ b ∷ c ∷ []
 four_written four (a ∷ b ∷ c ∷ d ∷ rest) = four ++ rest
 
 pub record ListsPlans (t : List ℤ) (mode lim : ℕ) (oldRows newRows oldReport newReport : List ℕ) (k : ℕ) : Type 0 where
-  pub result : Listed
+  pub result : Result Listed Refusal
   pub listing : Listing t (ask_of mode lim) oldRows newRows result
   pub kind : k ≡ list_kind result
   pub report : newReport ≡ four_written (numbers_of result) oldReport

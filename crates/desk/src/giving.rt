@@ -5,41 +5,38 @@ ghost use Rattle.desk.specs.Giving.{relax_kind, relax_first, relax_second, Gives
 use foundation::Candidates;
 use heads::Lists;
 use reports::{narrowed, write};
-use results::{Ask, Relaxed};
+use results::{Ask, Refusal, Relaxed};
 
 // The kind of the result.
-fn relax_kind(relaxed: Relaxed) -> u32
+fn relax_kind(relaxed: Result<Relaxed, Refusal>) -> u32
     ensures { result ≡ relax_kind relaxed }
 {
     match relaxed {
-        Relaxed::Answer(_) => 0,
-        Relaxed::Nothing => 1,
-        Relaxed::Limit => 2,
-        Relaxed::Refused(_) => 3,
+        Ok(Relaxed::Answer(_)) => 0,
+        Ok(Relaxed::Nothing) => 1,
+        Ok(Relaxed::Limit) => 2,
+        Err(_) => 3,
     }
 }
 
 // How many rules are dropped, or the number of a refusal.
-fn relax_first(relaxed: Relaxed) -> u32
+fn relax_first(relaxed: Result<Relaxed, Refusal>) -> u32
     ensures { result ≡ relax_first relaxed }
 {
     match relaxed {
-        Relaxed::Answer(n) => narrowed(n),
-        Relaxed::Nothing => 0,
-        Relaxed::Limit => 0,
-        Relaxed::Refused(f) => results::number(f),
+        Ok(Relaxed::Answer(n)) => narrowed(n),
+        Ok(Relaxed::Nothing | Relaxed::Limit) => 0,
+        Err(f) => f.number(),
     }
 }
 
 // The place of a refusal.
-fn relax_second(relaxed: Relaxed) -> u32
+fn relax_second(relaxed: Result<Relaxed, Refusal>) -> u32
     ensures { result ≡ relax_second relaxed }
 {
     match relaxed {
-        Relaxed::Answer(_) => 0,
-        Relaxed::Nothing => 0,
-        Relaxed::Limit => 0,
-        Relaxed::Refused(f) => narrowed(results::place(f)),
+        Ok(_) => 0,
+        Err(f) => narrowed(f.place()),
     }
 }
 

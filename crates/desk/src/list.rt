@@ -9,14 +9,14 @@ use reports::narrowed;
 use results::{Ask, Counts, Listed, Refusal};
 
 // The kind of a result.
-fn list_kind(listed: Listed) -> u32
+fn list_kind(listed: Result<Listed, Refusal>) -> u32
     ensures { result ≡ list_kind listed }
 {
     match listed {
-        Listed::Complete(_, _) => 0,
-        Listed::Full(_, _) => 1,
-        Listed::Limit(_, _) => 2,
-        Listed::Refused(_) => 3,
+        Ok(Listed::Complete(_, _)) => 0,
+        Ok(Listed::Full(_, _)) => 1,
+        Ok(Listed::Limit(_, _)) => 2,
+        Err(_) => 3,
     }
 }
 
@@ -24,28 +24,32 @@ fn list_kind(listed: Listed) -> u32
 fn counted(number: usize, counts: Counts) -> [u32; 4]
     ensures { result ≡ counted_in number counts }
 {
-    let n = narrowed(number);
-    [n, counts.choices, counts.skips, counts.passes]
+    [
+        narrowed(number),
+        counts.choices,
+        counts.skips,
+        counts.passes,
+    ]
 }
 
 // The number and the place of a refusal.
 fn refused(f: Refusal) -> [u32; 4]
     ensures { result ≡ refused_in f }
 {
-    let n = results::number(f);
-    let i = narrowed(results::place(f));
-    [n, i, 0, 0]
+    [f.number(), narrowed(f.place()), 0, 0]
 }
 
 // The four numbers of a result.
-fn numbers(listed: Listed) -> [u32; 4]
+fn numbers(listed: Result<Listed, Refusal>) -> [u32; 4]
     ensures { result ≡ numbers_of listed }
 {
     match listed {
-        Listed::Complete(number, counts) => counted(number, counts),
-        Listed::Full(number, counts) => counted(number, counts),
-        Listed::Limit(number, counts) => counted(number, counts),
-        Listed::Refused(f) => refused(f),
+        Ok(
+            Listed::Complete(number, counts)
+            | Listed::Full(number, counts)
+            | Listed::Limit(number, counts),
+        ) => counted(number, counts),
+        Err(f) => refused(f),
     }
 }
 
@@ -56,14 +60,7 @@ fn write_four(report: &mut [u32], four: [u32; 4])
     if report.len() < 4 {
         return;
     }
-    let first = four[0];
-    let second = four[1];
-    let third = four[2];
-    let fourth = four[3];
-    report[0] = first;
-    report[1] = second;
-    report[2] = third;
-    report[3] = fourth;
+    report[..4].copy_from_slice(&four);
 }
 
 // Every plan: the kind of the result, and in the report its four numbers.

@@ -3,35 +3,35 @@ ghost use Rattle.std.specs.Prelude.{◌≡◌};
 ghost use Rattle.desk.specs.Reading.{read_kind, read_first, read_second, ReadsAspif};
 
 use reports::{narrowed, write};
-use results::Written;
+use results::Refusal;
 
 // The kind of the result.
-pub fn read_kind(written: Written) -> u32
+pub fn read_kind(written: Result<usize, Refusal>) -> u32
     ensures { result ≡ read_kind written }
 {
     match written {
-        Written::Wrote(_) => 0,
-        Written::Refused(_) => 3,
+        Ok(_) => 0,
+        Err(_) => 3,
     }
 }
 
 // How many words or bytes were written, or the number of a refusal.
-pub fn read_first(written: Written) -> u32
+pub fn read_first(written: Result<usize, Refusal>) -> u32
     ensures { result ≡ read_first written }
 {
     match written {
-        Written::Wrote(n) => narrowed(n),
-        Written::Refused(f) => results::number(f),
+        Ok(n) => narrowed(n),
+        Err(f) => f.number(),
     }
 }
 
 // The place of a refusal.
-pub fn read_second(written: Written) -> u32
+pub fn read_second(written: Result<usize, Refusal>) -> u32
     ensures { result ≡ read_second written }
 {
     match written {
-        Written::Wrote(_) => 0,
-        Written::Refused(f) => narrowed(results::place(f)),
+        Ok(_) => 0,
+        Err(f) => narrowed(f.place()),
     }
 }
 

@@ -8,35 +8,35 @@ use foundation::Candidates;
 use heads::Lists;
 use pins::Session;
 use reports::{first, kind, narrowed, second, third, whys, write, write_third};
-use results::Pinned;
+use results::Refusal;
 
 // The kind of the result of a call that changes a session.
-fn changed_kind(pinned: Pinned) -> u32
+fn changed_kind(pinned: Result<(), Refusal>) -> u32
     ensures { result ≡ pinned_kind pinned }
 {
     match pinned {
-        Pinned::Done => 0,
-        Pinned::Refused(_) => 3,
+        Ok(()) => 0,
+        Err(_) => 3,
     }
 }
 
 // The number of a refusal.
-fn changed_first(pinned: Pinned) -> u32
+fn changed_first(pinned: Result<(), Refusal>) -> u32
     ensures { result ≡ changed_first pinned }
 {
     match pinned {
-        Pinned::Done => 0,
-        Pinned::Refused(f) => results::number(f),
+        Ok(()) => 0,
+        Err(f) => f.number(),
     }
 }
 
 // The place of a refusal.
-fn changed_second(pinned: Pinned) -> u32
+fn changed_second(pinned: Result<(), Refusal>) -> u32
     ensures { result ≡ changed_second pinned }
 {
     match pinned {
-        Pinned::Done => 0,
-        Pinned::Refused(f) => narrowed(results::place(f)),
+        Ok(()) => 0,
+        Err(f) => narrowed(f.place()),
     }
 }
 
@@ -96,8 +96,7 @@ pub extern "C" fn saucepebbly_plan(
 {
     let solution = pins::plan_with(session, limit, plan, lists, candidates);
     let solved = solution.solved;
-    let records = solution.whys;
-    whys::write(records, whys);
+    whys::write(solution.whys, whys);
     write(report, first(solved), second(solved));
     write_third(report, third(solved));
     kind(solved)

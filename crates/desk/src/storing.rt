@@ -17,9 +17,7 @@ pub extern "C" fn saucepebbly_store(
     ensures { StoresTable words.now bytes.old bytes.new report.old report.new result }
 {
     let written = stored::store_with(words, bytes, lists);
-    let first = read_first(written);
-    let second = read_second(written);
-    write(report, first, second);
+    write(report, read_first(written), read_second(written));
     read_kind(written)
 }
 
@@ -35,8 +33,6 @@ pub extern "C" fn saucepebbly_restore(
     ensures { RestoresTable bytes.now words.old words.new report.old report.new result }
 {
     let written = stored::restore_with(bytes, words, memory, lists);
-    let first = read_first(written);
-    let second = read_second(written);
-    write(report, first, second);
+    write(report, read_first(written), read_second(written));
     read_kind(written)
 }

@@ -16,8 +16,6 @@ pub extern "C" fn saucepebbly_write_aspif(
     ensures { WritesAspif words.now text.old text.new report.old report.new result }
 {
     let written = aspif_write::write_with(words, text, lists);
-    let first = read_first(written);
-    let second = read_second(written);
-    write(report, first, second);
+    write(report, read_first(written), read_second(written));
     read_kind(written)
 }

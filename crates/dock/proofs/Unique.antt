@@ -1,10 +1,11 @@
 -- Each entry's promise has one answer only: the kind, the report, the later plan and the rounds and rules. Assumes nothing.
 use mathlib.Core.Path.{◌≡◌, sym, ◌∙◌, ap}
 use mathlib.Core.List.{List}
+use Rattle.std.specs.Prelude.{Bool, Result}
 use Prim.Native.Nat.{ℕ}
 use lib.IntN.{ℤ}
 use Rattle.results.specs.Results.{kind_of, check_kind}
-use Rattle.results.specs.declared.Checked.{Checked}
+use Rattle.results.specs.declared.Refusal.{Refusal}
 use Rattle.solver.specs.declared.Solution.{Solution}
 use Rattle.solver.proofs.Unique.{solution_unique, approving_unique}
 use Rattle.reports.specs.Whys.{whys_written}
@@ -25,4 +26,4 @@ module _ (t : List ℤ) (mode lim : ℕ) (old report whys : List ℕ) where
 pub approves_unique : (t : List ℤ) (mode : ℕ) (plan report told told' : List ℕ) (k k' : ℕ) → Approves t mode plan report told k → Approves t mode plan report told' k' → (k ≡ k') × (told ≡ told')
 approves_unique t mode plan report told told' k k' a b =
     let u = approving_unique t plan a.result b.result a.approving b.approving in
-    (a.kind ∙ ap check_kind u ∙ sym b.kind, a.report ∙ ap (λ (r : Checked). check_report r report) u ∙ sym b.report)
+    (a.kind ∙ ap check_kind u ∙ sym b.kind, a.report ∙ ap (λ (r : Result Bool Refusal). check_report r report) u ∙ sym b.report)

@@ -7,7 +7,7 @@ ghost use Rattle.dock.specs.Dock.{Solves, Approves};
 
 use foundation::Candidates;
 use heads::Lists;
-use results::{Ask, Checked};
+use results::Ask;
 
 // The night's plan: the kind of the result, in the report its numbers, and for each atom its round and its rule. The mode is 0 where head cycles are refused; any
 // other takes them (request 14).
@@ -28,8 +28,7 @@ pub extern "C" fn saucepebbly_solve(
     let ask = Ask { cycles, limit };
     let solution = solver::solve_with(words, ask, plan, lists, candidates);
     let solved = solution.solved;
-    let records = solution.whys;
-    reports::whys::write(records, whys);
+    reports::whys::write(solution.whys, whys);
     reports::write(report, reports::first(solved), reports::second(solved));
     reports::write_third(report, reports::third(solved));
     reports::kind(solved)
@@ -47,16 +46,11 @@ pub extern "C" fn saucepebbly_approve(
 ) -> u32
     ensures { Approves words.now mode plan.now report.old report.new result }
 {
-    let checked = solver::approve_with(words, mode != 0, plan, lists, candidates);
-    match checked {
-        Checked::Yes => 0,
-        Checked::No => 1,
-        Checked::Refused(f) => {
-            reports::write(
-                report,
-                results::number(f),
-                reports::narrowed(results::place(f)),
-            );
+    match solver::approve_with(words, mode != 0, plan, lists, candidates) {
+        Ok(true) => 0,
+        Ok(false) => 1,
+        Err(f) => {
+            reports::write(report, f.number(), reports::narrowed(f.place()));
             3
         }
     }

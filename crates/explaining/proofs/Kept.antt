@@ -1,4 +1,4 @@
--- Rounds and rules laid from the two arrays of marks into the records of an interpretation, and read from there. Assumes nothing.
+-- Rounds and rules laid from the marks into the records of an interpretation, and read from there. Assumes nothing.
 use Prim.Native.Nat.{ℕ, zero, suc, ◌+◌, ◌≤◌, ◌<◌}
 use native.Mathlib.Omega.{arith}
 use mathlib.Core.Path.{◌≡◌, refl, sym, ap, ◌∙◌, fun_ext}
@@ -12,7 +12,6 @@ use Rattle.interpretation.specs.declared.Record.{Record}
 use Rattle.interpretation.proofs.Laws.{cells_zero, cells_suc}
 use Rattle.rounds.specs.declared.Why.{Why}
 use Rattle.rounds.specs.Rounds.{no_why, whys_in, Recorded}
-use Rattle.explaining.specs.Walk.{whys_by}
 use Rattle.explaining.specs.Kept.{why_in, kept_in}
 
 -- ---- an array that is filled from its first element on, with what f says
@@ -37,10 +36,6 @@ below_all f g n b past j = pick (lt_case j n)
 
 -- ---- into the records
 
--- what two arrays say at index i
-abbrev pub why_at : List ℕ → List ℕ → ℕ → Why
-why_at rs ns i = record { round = get_or rs i 0; rule = get_or ns i 0 }
-
 -- a record with the level that was there changes no cell
 pub cells_kept : (vs : List ℕ) (rs : List Record) (i : ℕ) (r : Record) → i < length rs → r.level ≡ (get_or rs i blank).level → cells vs (set rs i r) ≡ cells vs rs
 cells_kept vs rs i r h e = fun_ext at
@@ -55,20 +50,17 @@ cells_kept vs rs i r h e = fun_ext at
     at zero = cells_zero vs (set rs i r) ∙ sym (cells_zero vs rs)
     at (suc j) = cells_suc vs (set rs i r) j ∙ ap (cell_by (get_or vs j 0)) (level j (eq_case j i)) ∙ sym (cells_suc vs rs j)
 
-pub kept_all : (ks ns : List ℕ) (rs : List Record) → length ks ≡ 256 → length ns ≡ 256 → length rs ≡ 256
-    → Below (why_at ks ns) (λ (j : ℕ). why_in (get_or rs j blank)) 256 → kept_in rs ≡ whys_by ks ns
-unfolding kept_in whys_by
-kept_all ks ns rs a b c p = fun_ext at
+pub kept_all : (ws : List Why) (rs : List Record) → length ws ≡ 256 → length rs ≡ 256
+    → Below (λ (j : ℕ). get_or ws j no_why) (λ (j : ℕ). why_in (get_or rs j blank)) 256 → kept_in rs ≡ whys_in ws
+unfolding kept_in whys_in
+kept_all ws rs a b p = fun_ext at
   where
-    out : (l : List ℕ) (j : ℕ) → length l ≤ j → ◌≡◌ {A = ℕ} (get_or l j 0) 0
-    out l j h = get_or-eq_default l 0 h
+    past : (j : ℕ) → 256 ≤ j → why_in (get_or rs j blank) ≡ get_or ws j no_why
+    past j h = ap why_in (get_or-eq_default rs blank (omega arith)) ∙ sym (get_or-eq_default ws no_why (omega arith))
 
-    past : (j : ℕ) → 256 ≤ j → why_in (get_or rs j blank) ≡ why_at ks ns j
-    past j h = ap why_in (get_or-eq_default rs blank (omega arith)) ∙ sym (λ x. record { round = out ks j (omega arith) x; rule = out ns j (omega arith) x })
-
-    at : (q : ℕ) → kept_in rs q ≡ whys_by ks ns q
+    at : (q : ℕ) → kept_in rs q ≡ whys_in ws q
     at zero = refl
-    at (suc j) = below_all (why_at ks ns) (λ (k : ℕ). why_in (get_or rs k blank)) 256 p past j
+    at (suc j) = below_all (λ (k : ℕ). get_or ws k no_why) (λ (k : ℕ). why_in (get_or rs k blank)) 256 p past j
 
 -- ---- from the records
 

@@ -26,8 +26,7 @@ use Rattle.layout.specs.declared.Table.{Table}
 use Rattle.layout.specs.Layout.{atoms, part_at, pos_at, past_rule, rule_at, rules_from, program_of, Listed, RuleLies, RulesLie, Laid}
 use Rattle.layout.proofs.Inside.{rule_in_lem}
 use Rattle.layout.proofs.Rounds.{listed_wide}
-use Rattle.foundation.specs.declared.Adds.{Adds}
-use Rattle.foundation.specs.declared.Adds.TheVariants.{Nothing, Atom}
+use Rattle.std.specs.Prelude.{Option, None, Some}
 use Rattle.foundation.specs.Walk.{could_of, code_of, atom_of, place_of, positives}
 use Rattle.foundation.proofs.Adding.{not_atom, could_supports, supports_could}
 use Rattle.foundation.proofs.Rules.{could_range}
@@ -74,7 +73,7 @@ positive_at t i = refl
 module _ (t : List ℤ) (tb : Table) (laid : Laid t tb) (a : ℕ → Cell) where
   -- ---- the word of a rule that could add p
 
-  module _ (i : ℕ) (lies : RuleLies tb.atoms tb.aggregates t i) (p : ℕ) (e : could_of a (rule_at t i) ≡ Atom p) where
+  module _ (i : ℕ) (lies : RuleLies tb.atoms tb.aggregates t i) (p : ℕ) (e : could_of a (rule_at t i) ≡ Some p) where
     abbrev range : In 256 p
     range = could_range t tb laid i lies a p e
 
@@ -94,9 +93,9 @@ module _ (t : List ℤ) (tb : Table) (laid : Laid t tb) (a : ℕ → Cell) where
     fit_here : Listed 256 t (place_of (code_of (pos_at t i) p))
     fit_here = subst (Listed 256 t) (sym same_place) (listed_wide _ 256 t (pos_at t i) laid.few_atoms lies.poss)
 
-  fit_one : (i : ℕ) → RuleLies tb.atoms tb.aggregates t i → (d : Adds) → could_of a (rule_at t i) ≡ d → FitCode t (code_by d (pos_at t i))
-  fit_one i l Nothing e n = absurd (n refl)
-  fit_one i l (Atom p) e n = fit_here i l p e
+  fit_one : (i : ℕ) → RuleLies tb.atoms tb.aggregates t i → (d : Option ℕ) → could_of a (rule_at t i) ≡ d → FitCode t (code_by d (pos_at t i))
+  fit_one i l None e n = absurd (n refl)
+  fit_one i l (Some p) e n = fit_here i l p e
 
   pub codes_fit : (i n : ℕ) → RulesLie tb.atoms tb.aggregates t i n → FitCodes t (codes_from a t i n)
   unfolding codes_from RulesLie
@@ -124,10 +123,10 @@ module _ (t : List ℤ) (tb : Table) (laid : Laid t tb) (a : ℕ → Cell) where
       abbrev fits : RuleIn tb.atoms s
       fits = rule_in_lem t tb laid i lies
 
-      adds_none : could_of a s ≡ Nothing → marked X r k s w ≡ w
+      adds_none : could_of a s ≡ None → marked X r k s w ≡ w
       adds_none e = marked_none X r k s w (λ p. contra (supports X s p) {b = false} (λ h. absurd (not_atom (sym e ∙ supports_could tb.atoms a D s fits p h))) refl)
 
-      module _ (S : Sound w) (p : ℕ) (e : could_of a s ≡ Atom p) where
+      module _ (S : Sound w) (p : ℕ) (e : could_of a s ≡ Some p) where
         abbrev c : ℕ
         c = code_of (pos_at t i) p
 
@@ -166,9 +165,9 @@ module _ (t : List ℤ) (tb : Table) (laid : Laid t tb) (a : ℕ → Cell) where
             ∙ ap (λ (b : Bool). mark_by b r k c w) (sym (due_is ∙ ap (λ (b : Bool). eqb (w p).round 0 && b) h ∙ both_and (eqb (w p).round 0)))
 
       -- the word of a rule does what the rule does
-      one_rule : Sound w → (d : Adds) → could_of a s ≡ d → mark_by (due t r (code_by d (pos_at t i)) w) r k (code_by d (pos_at t i)) w ≡ marked X r k s w
-      one_rule S Nothing e = sym (adds_none e)
-      one_rule S (Atom p) e = sym (adds_atom S p e (all (earlier w r) s.pos) refl)
+      one_rule : Sound w → (d : Option ℕ) → could_of a s ≡ d → mark_by (due t r (code_by d (pos_at t i)) w) r k (code_by d (pos_at t i)) w ≡ marked X r k s w
+      one_rule S None e = sym (adds_none e)
+      one_rule S (Some p) e = sym (adds_atom S p e (all (earlier w r) s.pos) refl)
 
     marked_sound : (r k : ℕ) (s : Rule) (w : ℕ → Why) → Sound w → Sound (marked X r k s w)
     marked_sound r k s w S q = at (supports X s q && all (earlier w r) s.pos) refl (eqb (w q).round 0)

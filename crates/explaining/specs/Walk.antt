@@ -1,40 +1,24 @@
 -- Rounds and rules as the code finds them: what each rule could add as one word, and the walk over these words for each round. Definitions only; they need
 -- not be believed: the contract of `explain` speaks of `why_of` of crate `rounds`, and `proofs/` ties the two.
---   whys_by rs ns     the rounds and rules that two arrays stand for, atom p's at index p - 1;  rounds_by: with the rules left out;  view: of the struct
 --   code_by, codes_from   the word of a rule: 0 where it adds nothing, else the candidate that it is (crate `foundation`)
 --   due t r c w      the rule with the word c adds its atom in round r
 --   walk_codes        one round, rule by rule, from the number i on
 --   FitCodes t l     a list of atoms stands in the table where each word of l that is not 0 says
 -- Assumes nothing.
-use Rattle.std.specs.Prelude.{ℕ, zero, suc, ◌≢◌, Bool, true, false, not, ◌&&◌, List, [], ◌∷◌, eqb, ℤ, get_or}
+use Rattle.std.specs.Prelude.{ℕ, zero, suc, ◌≢◌, Bool, true, false, not, ◌&&◌, List, [], ◌∷◌, eqb, ℤ, Option, Some, None}
 use Rattle.meaning.specs.Cond.{if_eq}
 use Rattle.meaning.specs.Lists.{◌∈◌, all}
 use Rattle.interpretation.specs.State.{Cell}
 use Rattle.layout.specs.Layout.{pos_at, past_rule, rule_at, Listed}
-use Rattle.foundation.specs.declared.Adds.{Adds}
-use Rattle.foundation.specs.declared.Adds.TheVariants.{Nothing, Atom}
 use Rattle.foundation.specs.Walk.{could_of, code_of, atom_of, place_of, positives}
 use Rattle.rounds.specs.declared.Why.{Why}
-use Rattle.rounds.specs.Rounds.{no_why}
 use Rattle.rounds.specs.Marks.{earlier}
-use Rattle.explaining.specs.declared.Marks.{Marks}
-
-unfoldable pub whys_by : List ℕ → List ℕ → ℕ → Why
-whys_by rs ns zero = no_why
-whys_by rs ns (suc i) = record { round = get_or rs i 0; rule = get_or ns i 0 }
-
--- by the rounds alone: what the tests read
-abbrev pub rounds_by : List ℕ → ℕ → Why
-rounds_by rs = whys_by rs []
-
-abbrev pub view : Marks → ℕ → Why
-view m = whys_by m.rounds m.rules
 
 -- ---- the words of rules
 
-abbrev pub code_by : Adds → ℕ → ℕ
-code_by Nothing j = 0
-code_by (Atom p) j = code_of j p
+abbrev pub code_by : Option ℕ → ℕ → ℕ
+code_by None j = 0
+code_by (Some p) j = code_of j p
 
 unfoldable pub codes_from : (ℕ → Cell) → List ℤ → ℕ → ℕ → List ℕ
 codes_from a t i zero = []

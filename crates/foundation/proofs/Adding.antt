@@ -21,26 +21,24 @@ use Rattle.interpretation.specs.View.{cell_value}
 use Rattle.interpretation.specs.declared.Value.TheVariants.{False}
 use Rattle.valuing.specs.Values.{says_false, opposite, Lit, atom_lit, agg_lit, value, true_in}
 use Rattle.steps.proofs.Lits.{map_i}
-use Rattle.literals.specs.declared.First.{First}
-use Rattle.literals.specs.declared.First.TheVariants as first
 use Rattle.literals.specs.Scan.{first_false}
 use Rattle.literals.proofs.Scans.{is_false, says_at, says_nothing}
 use Rattle.rules.specs.Demand.{together, is_conflict}
-use Rattle.foundation.specs.declared.Adds.{Adds}
-use Rattle.foundation.specs.declared.Adds.TheVariants.{Nothing, Atom}
+use Rattle.std.specs.Prelude.{Option}
+use Rattle.std.specs.Prelude.{None, Some}
 use Rattle.foundation.specs.Walk.{fits, add_if, sole_by, sole_of, rest_true, could_by, could_of}
 use Rattle.foundation.proofs.Decided.{true_at, decides_body, ask_bool, asks_decided, ask_conflict}
 
 -- ---- small facts
 
-abbrev is_atom : Adds → Bool
-is_atom Nothing = false
-is_atom (Atom p) = true
+abbrev is_atom : Option ℕ → Bool
+is_atom None = false
+is_atom (Some p) = true
 
-pub not_atom : {p : ℕ} → Nothing ≡ Atom p → ⊥
+pub not_atom : {p : ℕ} → None ≡ Some p → ⊥
 not_atom e = clash {b = true} refl (ap is_atom (sym e))
 
-add_e : (b : Bool) (q p : ℕ) → add_if b q ≡ Atom p → Is b × (q ≡ p)
+add_e : (b : Bool) (q p : ℕ) → add_if b q ≡ Some p → Is b × (q ≡ p)
 add_e true q p e = (refl, cc)
 add_e false q p e = absurd (not_atom e)
 
@@ -72,7 +70,7 @@ module _ (a : ℕ → Cell) (ps : List ℕ) where
   denied = map (atom_lit false) ps
 
   -- the literal that is found is that of a true atom
-  stop_true : (k : ℕ) → first_false a (map (atom_lit false) ps) ≡ first.At k → (get_or ps k 0 ∈ ps) × Is (truth_of (a (get_or ps k 0)))
+  stop_true : (k : ℕ) → first_false a (map (atom_lit false) ps) ≡ Some k → (get_or ps k 0 ∈ ps) × Is (truth_of (a (get_or ps k 0)))
   stop_true k e =
       let s = says_at (atom_lit false 0) a (map (atom_lit false) ps) k e in
       let w = s.within in
@@ -93,12 +91,12 @@ module _ (a : ℕ → Cell) (ps : List ℕ) where
       at h m (inl t) = or_r (not (truth_of (a h))) _ (eq_i (u h m t))
       at h m (inr t) = or_l _ _ (is_not_lem (truth_of (a h)) t)
 
-  pub sole_e : (p : ℕ) → sole_of a ps ≡ Atom p → Sole p
+  pub sole_e : (p : ℕ) → sole_of a ps ≡ Some p → Sole p
   unfolding sole_of
   sole_e p e = at (first_false a (map (atom_lit false) ps)) refl e
     where
-      at : (s : First) → first_false a (map (atom_lit false) ps) ≡ s → sole_by a ps s ≡ Atom p → Sole p
-      at (first.At k) f g =
+      at : (s : Option ℕ) → first_false a (map (atom_lit false) ps) ≡ s → sole_by a ps s ≡ Some p → Sole p
+      at (Some k) f g =
           let t = stop_true k f in
           let b = add_e (all (fits a (get_or ps k 0)) ps) (get_or ps k 0) p g in
           record {
@@ -106,35 +104,35 @@ module _ (a : ℕ → Cell) (ps : List ℕ) where
             is_true = ap (λ (q : ℕ). truth_of (a q)) (sym b.1) ∙ t.1;
             unique = λ h m x. fits_e (get_or ps k 0) b.0 h m x ∙ b.1;
           }
-      at first.Nothing f g = absurd (not_atom g)
+      at None f g = absurd (not_atom g)
 
   -- with a true atom one is found
   some_false : (p : ℕ) → Sole p → any (is_false a) (map (atom_lit false) ps) ≡ false → ⊥
   some_false p s e = clash (any_i (is_false a) (map (atom_lit false) ps) (map_i (atom_lit false) s.inside) (false_cell (a p) s.is_true)) e
 
-  pub sole_i : (p : ℕ) → Sole p → sole_of a ps ≡ Atom p
+  pub sole_i : (p : ℕ) → Sole p → sole_of a ps ≡ Some p
   unfolding sole_of
   sole_i p s = at (first_false a (map (atom_lit false) ps)) refl
     where
-      at : (c : First) → first_false a (map (atom_lit false) ps) ≡ c → sole_by a ps c ≡ Atom p
-      at (first.At k) f =
+      at : (c : Option ℕ) → first_false a (map (atom_lit false) ps) ≡ c → sole_by a ps c ≡ Some p
+      at (Some k) f =
           let t = stop_true k f in
           let q = s.unique (get_or ps k 0) t.0 t.1 in
-          ap (λ (b : Bool). add_if b (get_or ps k 0)) (fits_i (get_or ps k 0) (λ h m x. s.unique h m x ∙ sym q)) ∙ ap Atom q
-      at first.Nothing f = absurd (some_false p s (says_nothing (atom_lit false 0) a (map (atom_lit false) ps) f).none_false)
+          ap (λ (b : Bool). add_if b (get_or ps k 0)) (fits_i (get_or ps k 0) (λ h m x. s.unique h m x ∙ sym q)) ∙ ap Some q
+      at None f = absurd (some_false p s (says_nothing (atom_lit false 0) a (map (atom_lit false) ps) f).none_false)
 
 -- ---- what a rule could add
 
 -- its only true head atom, where the rest of the body is true
-pub could_e : (a : ℕ → Cell) (r : Rule) (p : ℕ) → could_of a r ≡ Atom p → Sole a r.head p × Is (rest_true a r)
+pub could_e : (a : ℕ → Cell) (r : Rule) (p : ℕ) → could_of a r ≡ Some p → Sole a r.head p × Is (rest_true a r)
 unfolding could_of
 could_e a r p e = at (sole_of a r.head) refl e
   where
-    at : (d : Adds) → sole_of a r.head ≡ d → could_by a r d ≡ Atom p → Sole a r.head p × Is (rest_true a r)
-    at Nothing f g = absurd (not_atom g)
-    at (Atom q) f g = let t = add_e (rest_true a r) q p g in (sole_e a r.head p (f ∙ ap Atom t.1), t.0)
+    at : (d : Option ℕ) → sole_of a r.head ≡ d → could_by a r d ≡ Some p → Sole a r.head p × Is (rest_true a r)
+    at None f g = absurd (not_atom g)
+    at (Some q) f g = let t = add_e (rest_true a r) q p g in (sole_e a r.head p (f ∙ ap Some t.1), t.0)
 
-pub could_i : (a : ℕ → Cell) (r : Rule) (p : ℕ) → Sole a r.head p → Is (rest_true a r) → could_of a r ≡ Atom p
+pub could_i : (a : ℕ → Cell) (r : Rule) (p : ℕ) → Sole a r.head p → Is (rest_true a r) → could_of a r ≡ Some p
 unfolding could_of
 could_i a r p s h = ap (could_by a r) (sole_i a r.head p s) ∙ ap (λ (b : Bool). add_if b p) h
 
@@ -201,9 +199,9 @@ module _ (n : ℕ) (a : ℕ → Cell) (D : AllDefined n a) (r : Rule) (I : RuleI
   }
 
   -- where its positive atoms are true, it supports what it could add
-  pub could_supports : (p : ℕ) → could_of a r ≡ Atom p → ((q : ℕ) → q ∈ r.pos → Is (X q)) → Is (supports X r p)
+  pub could_supports : (p : ℕ) → could_of a r ≡ Some p → ((q : ℕ) → q ∈ r.pos → Is (X q)) → Is (supports X r p)
   could_supports p e f = let t = could_e a r p e in supports_i X r p (body_true_lem f t.1) (only_of p t.0)
 
   -- what it supports, it could add
-  pub supports_could : (p : ℕ) → Is (supports X r p) → could_of a r ≡ Atom p
+  pub supports_could : (p : ℕ) → Is (supports X r p) → could_of a r ≡ Some p
   supports_could p s = could_i a r p (sole_of_lem p (supports_only X r p s)) (rest_of (supports_body X r p s))

@@ -15,8 +15,8 @@ use Rattle.interpretation.specs.State.{Cell}
 use Rattle.layout.specs.declared.Table.{Table}
 use Rattle.layout.specs.Layout.{atoms, part_at, pos_at, past_rule, rule_at, rules_from, Listed, RuleLies, RulesLie, Laid}
 use Rattle.layout.proofs.Rounds.{listed_wide}
-use Rattle.foundation.specs.declared.Adds.{Adds}
-use Rattle.foundation.specs.declared.Adds.TheVariants.{Nothing, Atom}
+use Rattle.std.specs.Prelude.{Option}
+use Rattle.std.specs.Prelude.{None, Some}
 use Rattle.foundation.specs.Walk.{could_of, code_of, atom_of, place_of, positives, with_candidate, candidates_from}
 use Rattle.foundation.proofs.Adding.{not_atom}
 use Rattle.foundation.proofs.Rules.{could_range}
@@ -48,10 +48,10 @@ module _ (a : ℕ → Cell) (t : List ℤ) (i : ℕ) where
   candidates_zero = refl
 
   -- those of n rules, once it is known what the first could add
-  pub candidates_on : (n : ℕ) → 0 < n → (d : Adds) → could_of a (rule_at t i) ≡ d → candidates_from a t i n ≡ with_candidate d (pos_at t i) (candidates_from a t (past_rule t i) (n - 1))
+  pub candidates_on : (n : ℕ) → 0 < n → (d : Option ℕ) → could_of a (rule_at t i) ≡ d → candidates_from a t i n ≡ with_candidate d (pos_at t i) (candidates_from a t (past_rule t i) (n - 1))
   candidates_on n h d f =
       let e : n ≡ suc (n - 1) = omega arith in
-      ap (candidates_from a t i) e ∙ candidates_suc (n - 1) ∙ ap (λ (x : Adds). with_candidate x (pos_at t i) (candidates_from a t (past_rule t i) (n - 1))) f
+      ap (candidates_from a t i) e ∙ candidates_suc (n - 1) ∙ ap (λ (x : Option ℕ). with_candidate x (pos_at t i) (candidates_from a t (past_rule t i) (n - 1))) f
 
   pub candidates_none : (n : ℕ) → n ≤ 0 → candidates_from a t i n ≡ []
   candidates_none n h = let e : n ≡ 0 = omega arith in ap (candidates_from a t i) e ∙ candidates_zero
@@ -61,7 +61,7 @@ module _ (a : ℕ → Cell) (t : List ℤ) (i : ℕ) where
 pub record Stems (a : ℕ → Cell) (t : List ℤ) (P : Program) (c : ℕ) : Type 0 where
   pub rule : Rule
   pub inside : rule ∈ P
-  pub could : could_of a rule ≡ Atom (atom_of c)
+  pub could : could_of a rule ≡ Some (atom_of c)
   pub same : positives t c ≡ rule.pos
   pub lies : Listed 256 t (place_of c)
 
@@ -77,7 +77,7 @@ positive_at t i = refl
 
 module _ (a : ℕ → Cell) (t : List ℤ) (tb : Table) (laid : Laid t tb) where
   -- the candidate of the rule at i
-  module _ (i : ℕ) (l : RuleLies tb.atoms tb.aggregates t i) (p : ℕ) (e : could_of a (rule_at t i) ≡ Atom p) where
+  module _ (i : ℕ) (l : RuleLies tb.atoms tb.aggregates t i) (p : ℕ) (e : could_of a (rule_at t i) ≡ Some p) where
     abbrev range : In 256 p
     range = could_range t tb laid i l a p e
 
@@ -96,7 +96,7 @@ module _ (a : ℕ → Cell) (t : List ℤ) (tb : Table) (laid : Laid t tb) where
   candidates_e i (suc n) h c m =
       at (could_of a (rule_at t i)) refl (λ k. later (rule_at t i) (rules_from t (past_rule t i) n) c (candidates_e (past_rule t i) n h.1 c k)) m
     where
-      pick : (p : ℕ) → could_of a (rule_at t i) ≡ Atom p → (c ∈ candidates_from a t (past_rule t i) n → Stems a t (rule_at t i ∷ rules_from t (past_rule t i) n) c)
+      pick : (p : ℕ) → could_of a (rule_at t i) ≡ Some p → (c ∈ candidates_from a t (past_rule t i) n → Stems a t (rule_at t i ∷ rules_from t (past_rule t i) n) c)
           → (c ≡ code_of (pos_at t i) p) ⊎ (c ∈ candidates_from a t (past_rule t i) n)
           → Stems a t (rule_at t i ∷ rules_from t (past_rule t i) n) c
       pick p e rest (inl f) =
@@ -104,26 +104,26 @@ module _ (a : ℕ → Cell) (t : List ℤ) (tb : Table) (laid : Laid t tb) where
           record {
             rule = rule_at t i;
             inside = Memᴰ.head refl;
-            could = e ∙ ap Atom (sym (ap (λ (k : ℕ). atom_of k) f ∙ code_atom (pos_at t i) p x));
+            could = e ∙ ap Some (sym (ap (λ (k : ℕ). atom_of k) f ∙ code_atom (pos_at t i) p x));
             same = ap (positives t) f ∙ same_here i h.0 p e;
             lies = subst (λ (k : ℕ). Listed 256 t (place_of k)) (sym f) (lies_here i h.0 p e);
           }
       pick p e rest (inr k) = rest k
 
-      at : (d : Adds) → could_of a (rule_at t i) ≡ d → (c ∈ candidates_from a t (past_rule t i) n → Stems a t (rule_at t i ∷ rules_from t (past_rule t i) n) c)
+      at : (d : Option ℕ) → could_of a (rule_at t i) ≡ d → (c ∈ candidates_from a t (past_rule t i) n → Stems a t (rule_at t i ∷ rules_from t (past_rule t i) n) c)
           → c ∈ with_candidate d (pos_at t i) (candidates_from a t (past_rule t i) n)
           → Stems a t (rule_at t i ∷ rules_from t (past_rule t i) n) c
-      at Nothing e rest k = rest k
-      at (Atom p) e rest k = pick p e rest (Memᴰ.cases_cons k)
+      at None e rest k = rest k
+      at (Some p) e rest k = pick p e rest (Memᴰ.cases_cons k)
 
-  pub candidates_i : (i n : ℕ) → RulesLie tb.atoms tb.aggregates t i n → (r : Rule) → r ∈ rules_from t i n → (p : ℕ) → could_of a r ≡ Atom p → Named t (candidates_from a t i n) r p
+  pub candidates_i : (i n : ℕ) → RulesLie tb.atoms tb.aggregates t i n → (r : Rule) → r ∈ rules_from t i n → (p : ℕ) → could_of a r ≡ Some p → Named t (candidates_from a t i n) r p
   unfolding candidates_from rules_from RulesLie
   candidates_i i zero h r m p e = absurd (Memᴰ.not-nil m)
   candidates_i i (suc n) h r m p e = at (Memᴰ.cases_cons m) (λ k. candidates_i (past_rule t i) n h.1 r k p e)
     where
-      here : (d : Adds) → could_of a (rule_at t i) ≡ d → d ≡ Atom p → r ≡ rule_at t i → Named t (with_candidate d (pos_at t i) (candidates_from a t (past_rule t i) n)) r p
-      here Nothing f g k = absurd (not_atom g)
-      here (Atom q) f g k =
+      here : (d : Option ℕ) → could_of a (rule_at t i) ≡ d → d ≡ Some p → r ≡ rule_at t i → Named t (with_candidate d (pos_at t i) (candidates_from a t (past_rule t i) n)) r p
+      here None f g k = absurd (not_atom g)
+      here (Some q) f g k =
           record {
             code = code_of (pos_at t i) q;
             inside = Memᴰ.head refl;
@@ -131,9 +131,9 @@ module _ (a : ℕ → Cell) (t : List ℤ) (tb : Table) (laid : Laid t tb) where
             same = same_here i h.0 q f ∙ sym (ap (λ (x : Rule). x.pos) k);
           }
 
-      more : (d : Adds) → Named t (candidates_from a t (past_rule t i) n) r p → Named t (with_candidate d (pos_at t i) (candidates_from a t (past_rule t i) n)) r p
-      more Nothing s = s
-      more (Atom q) s = record { code = s.code; inside = Memᴰ.tail s.inside; atom = s.atom; same = s.same }
+      more : (d : Option ℕ) → Named t (candidates_from a t (past_rule t i) n) r p → Named t (with_candidate d (pos_at t i) (candidates_from a t (past_rule t i) n)) r p
+      more None s = s
+      more (Some q) s = record { code = s.code; inside = Memᴰ.tail s.inside; atom = s.atom; same = s.same }
 
       at : (r ≡ rule_at t i) ⊎ (r ∈ rules_from t (past_rule t i) n) → (r ∈ rules_from t (past_rule t i) n → Named t (candidates_from a t (past_rule t i) n) r p)
           → Named t (with_candidate (could_of a (rule_at t i)) (pos_at t i) (candidates_from a t (past_rule t i) n)) r p

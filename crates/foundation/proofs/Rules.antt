@@ -16,7 +16,7 @@ use Rattle.layout.specs.Layout.{past_rule, rule_at, rules_from, RuleLies, Laid}
 use Rattle.layout.proofs.Inside.{rule_in_lem}
 use Rattle.layout.proofs.Rounds.{rules_on, rules_none}
 use Rattle.rules.specs.Demand.{demand_of, is_conflict}
-use Rattle.foundation.specs.declared.Adds.TheVariants.{Atom}
+use Rattle.std.specs.Prelude.{Some}
 use Rattle.foundation.specs.Walk.{could_of}
 use Rattle.foundation.proofs.Decided.{holds_decided}
 use Rattle.foundation.proofs.Adding.{could_e}
@@ -47,7 +47,7 @@ module _ (t : List ℤ) (i : ℕ) where
         ∙ ap (λ (b : Bool). b && model (rules_from t (past_rule t i) (n - 1)) (true_atoms tb.atoms a)) (rule_holds false e)
 
 -- an atom that a rule of the table could add is one of 1 .. 256
-pub could_range : (t : List ℤ) (tb : Table) → Laid t tb → (i : ℕ) → RuleLies tb.atoms tb.aggregates t i → (a : ℕ → Cell) (p : ℕ) → could_of a (rule_at t i) ≡ Atom p → In 256 p
+pub could_range : (t : List ℤ) (tb : Table) → Laid t tb → (i : ℕ) → RuleLies tb.atoms tb.aggregates t i → (a : ℕ → Cell) (p : ℕ) → could_of a (rule_at t i) ≡ Some p → In 256 p
 could_range t tb laid i l a p e =
     let j = (rule_in_lem t tb laid i l).heads p (could_e a (rule_at t i) p e).0.inside in
     let f = laid.few_atoms in

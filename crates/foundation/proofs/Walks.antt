@@ -24,7 +24,7 @@ use Rattle.interpretation.specs.State.{Cell, truth_of, true_atoms, AllDefined}
 use Rattle.layout.specs.declared.Table.{Table}
 use Rattle.layout.specs.Layout.{program_of, Laid}
 use Rattle.layout.proofs.Inside.{atoms_in_lem}
-use Rattle.foundation.specs.declared.Adds.TheVariants.{Atom}
+use Rattle.std.specs.Prelude.{Some}
 use Rattle.foundation.specs.Walk.{could_of, candidates_from, covers, atom_of, positives, Fit, with_atom, marks_by, left_by, marks_past, walk_marks, walk_left}
 use Rattle.foundation.proofs.Decided.{true_at}
 use Rattle.foundation.proofs.Adding.{could_supports, supports_could}
@@ -204,7 +204,7 @@ module _ (n : ℕ) (a : ℕ → Cell) (D : AllDefined n a) (P : Program) (A : At
     pub record Between (G : Atoms) (l : List ℕ) : Type 0 where
       pub sound : Sound G
       pub told : (c : ℕ) → c ∈ l → Stems a t P c
-      pub whole : (r : Rule) → r ∈ P → (p : ℕ) → could_of a r ≡ Atom p → Is (G p) ⊎ Named t l r p
+      pub whole : (r : Rule) → r ∈ P → (p : ℕ) → could_of a r ≡ Some p → Is (G p) ⊎ Named t l r p
 
     pub between_fits : (G : Atoms) (l : List ℕ) → Between G l → Fit t l
     between_fits G l b c m = (b.told c m).lies

@@ -18,43 +18,52 @@ use Rattle.meaning.specs.Foundedness.{atoms_to}
 use Rattle.interpretation.specs.State.{Cell, undefined, defined, truth_of}
 use Rattle.interpretation.specs.View.{cell_value}
 use Rattle.valuing.specs.Values.{says_true}
-use Rattle.layout.specs.Layout.{atoms}
+use Rattle.std.specs.List.{list_all, range_with_len}
+use Rattle.std.proofs.lemmas.List.{get_or_default}
+use Rattle.layout.specs.Layout.{Members, atoms}
 use Rattle.foundation.specs.Walk.{marked, fits, Stands, with_atom}
 
--- ---- a test on the words of a list from index i on
+-- ---- the words of a list
 
-module _ (f : ℕ → Bool) (l : List ℤ) (i : ℕ) where
-  abbrev here : ℕ
-  here = nat_abs (get_or l i (pos 0))
+-- a test of their atoms
+pub all_words : (f : ℕ → Bool) (l : List ℤ) → list_all (λ (w : ℤ). f (nat_abs w)) l ≡ all f (atoms l)
+all_words f [] = refl
+all_words f (w ∷ l) = ap (λ (b : Bool). f (nat_abs w) && b) (all_words f l)
 
-  at_word : i < length l → all f (atoms (drop i l)) ≡ (f here && all f (atoms (drop (i + 1) l)))
-  at_word h = rw (drop-cons l i (pos 0) h, add-one) refl
+-- each is in the range of the list's atoms
+pub in_range : (l : List ℤ) → Members 256 l → (k : ℕ) (w : ℤ) → k < length l → w ≡ get_or l k w → (1 ≤ nat_abs w) × (nat_abs w ≤ 256)
+in_range l m k w h e = let s : get_or l k w ≡ get_or l k (pos 0) = get_or_default l k w (pos 0) h in rw (e ∙ s) (m k h)
 
-  pub all_fails : i < length l → f here ≡ false → all f (atoms (drop i l)) ≡ false
-  all_fails h e = at_word h ∙ ap (λ (b : Bool). b && all f (atoms (drop (i + 1) l))) e
+-- ---- a test on the atoms 1 .. n
 
-  pub all_on : i < length l → f here ≡ true → all f (atoms (drop i l)) ≡ all f (atoms (drop (i + 1) l))
-  all_on h e = at_word h ∙ ap (λ (b : Bool). b && all f (atoms (drop (i + 1) l))) e
+module _ (f : ℕ → Bool) where
+  turned : (r b s : Bool) → (r && (b && s)) ≡ ((b && r) && s)
+  turned true b s = ap (λ (x : Bool). x && s) (at b)
+    where
+      at : (b : Bool) → b ≡ (b && true)
+      at true = refl
+      at false = refl
+  turned false b s = ap (λ (x : Bool). x && s) (at b)
+    where
+      at : (b : Bool) → false ≡ (b && false)
+      at true = refl
+      at false = refl
 
-  pub all_ended : length l ≤ i → all f (atoms (drop i l)) ≡ true
-  all_ended h = rw (drop_of_length-le l h) refl
+  -- those above m
+  atoms_above : (n m : ℕ) → all f (atoms_to (n + m)) ≡ (list_all f (range_with_len (suc m) n) && all f (atoms_to m))
+  atoms_above zero m = let e : 0 + m ≡ m = omega arith in ap (λ (k : ℕ). all f (atoms_to k)) e
+  atoms_above (suc n) m =
+      (let e : suc n + m ≡ n + suc m = omega arith in ap (λ (k : ℕ). all f (atoms_to k)) e)
+      ∙ atoms_above n (suc m)
+      ∙ turned (list_all f (range_with_len (suc (suc m)) n)) (f (suc m)) (all f (atoms_to m))
+      ∙ (let e : suc (suc m) ≡ suc m + 1 = omega arith in ap (λ (k : ℕ). (f (suc m) && list_all f (range_with_len k n)) && all f (atoms_to m)) e)
 
--- ---- a test on the atoms n .. 1
-
-module _ (f : ℕ → Bool) (p : ℕ) where
-  at_atom : 0 < p → all f (atoms_to p) ≡ (f p && all f (atoms_to (p - 1)))
-  at_atom h =
-      let e : p ≡ suc (p - 1) = omega arith in
-      ap (λ (m : ℕ). all f (atoms_to m)) e ∙ ap (λ (m : ℕ). f m && all f (atoms_to (p - 1))) (sym e)
-
-  pub down_fails : 0 < p → f p ≡ false → all f (atoms_to p) ≡ false
-  down_fails h e = at_atom h ∙ ap (λ (b : Bool). b && all f (atoms_to (p - 1))) e
-
-  pub down_on : 0 < p → f p ≡ true → all f (atoms_to p) ≡ all f (atoms_to (p - 1))
-  down_on h e = at_atom h ∙ ap (λ (b : Bool). b && all f (atoms_to (p - 1))) e
-
-  pub down_ended : p ≤ 0 → all f (atoms_to p) ≡ true
-  down_ended h = let e : p ≡ 0 = omega arith in ap (λ (m : ℕ). all f (atoms_to m)) e
+  pub all_atoms : (n : ℕ) → list_all f (range_with_len 1 n) ≡ all f (atoms_to n)
+  all_atoms n = at (list_all f (range_with_len 1 n)) ∙ sym (atoms_above n 0) ∙ (let e : n + 0 ≡ n = omega arith in ap (λ (k : ℕ). all f (atoms_to k)) e)
+    where
+      at : (b : Bool) → b ≡ (b && true)
+      at true = refl
+      at false = refl
 
 -- ---- values
 
@@ -75,56 +84,38 @@ fits_other a p h n = ap (λ (b : Bool). not (truth_of (a h)) || b) (contra (eqb 
 
 -- ---- marks
 
-pub marked_suc : (ms : List ℕ) (i : ℕ) → marked ms (suc i) ≡ not (eqb (get_or ms i 0) 0)
+pub marked_suc : (ms : List Bool) (i : ℕ) → marked ms (suc i) ≡ get_or ms i false
 unfolding marked
 marked_suc ms i = refl
 
-pub marked_zero : (ms : List ℕ) → marked ms 0 ≡ false
+pub marked_zero : (ms : List Bool) → marked ms 0 ≡ false
 unfolding marked
 marked_zero ms = refl
 
-pub marked_at : (ms : List ℕ) (p : ℕ) → 1 ≤ p → marked ms p ≡ not (eqb (get_or ms (p - 1) 0) 0)
+pub marked_at : (ms : List Bool) (p : ℕ) → 1 ≤ p → marked ms p ≡ get_or ms (p - 1) false
 marked_at ms p h = let e : p ≡ suc (p - 1) = omega arith in ap (marked ms) e ∙ marked_suc ms (p - 1)
 
-pub marked_set : (ms : List ℕ) (p : ℕ) → 1 ≤ p → p - 1 < length ms → marked (set ms (p - 1) 1) ≡ with_atom p (marked ms)
-marked_set ms p h k = fun_ext (λ q. at q)
+-- that of the atom at index i
+pub marked_next : (ms : List Bool) (i : ℕ) → marked ms (i + 1) ≡ get_or ms i false
+marked_next ms i = ap (marked ms) (add-one i) ∙ marked_suc ms i
+
+pub marked_with : (ms : List Bool) (i : ℕ) → i < length ms → marked (set ms i true) ≡ with_atom (i + 1) (marked ms)
+marked_with ms i h = fun_ext (λ q. at q (eq_case q (i + 1)))
   where
-    other : (i : ℕ) → suc i ≢ p → marked (set ms (p - 1) 1) (suc i) ≡ marked ms (suc i)
-    other i n =
-        let m : i ≢ p - 1 = λ e. n (omega arith) in
-        marked_suc (set ms (p - 1) 1) i ∙ ap (λ (v : ℕ). not (eqb v 0)) (get_or-set_other ms (p - 1) i 1 0 m) ∙ sym (marked_suc ms i)
+    at : (q : ℕ) → (q ≡ i + 1) ⊎ (q ≢ i + 1) → marked (set ms i true) q ≡ with_atom (i + 1) (marked ms) q
+    at q (inl e) = ap (marked (set ms i true)) e ∙ marked_next (set ms i true) i ∙ get_or-set_same ms i true false h ∙ sym (if_eq_yes q (i + 1) true (marked ms q) e)
+    at zero (inr n) = marked_zero (set ms i true) ∙ sym (marked_zero ms) ∙ sym (if_eq_no 0 (i + 1) true (marked ms 0) n)
+    at (suc j) (inr n) =
+        let m : j ≢ i = λ e. n (omega arith) in
+        marked_suc (set ms i true) j ∙ get_or-set_other ms i j true false m ∙ sym (marked_suc ms j) ∙ sym (if_eq_no (suc j) (i + 1) true (marked ms (suc j)) n)
 
-    same : (q : ℕ) → q ≡ p → marked (set ms (p - 1) 1) q ≡ true
-    same q e =
-        ap (marked (set ms (p - 1) 1)) e ∙ marked_at (set ms (p - 1) 1) p h ∙ ap (λ (v : ℕ). not (eqb v 0)) (get_or-set_same ms (p - 1) 1 0 k)
-
-    pick : (q : ℕ) → (q ≡ p) ⊎ (q ≢ p) → marked (set ms (p - 1) 1) q ≡ with_atom p (marked ms) q
-    pick q (inl e) = same q e ∙ sym (if_eq_yes q p true (marked ms q) e)
-    pick zero (inr n) = marked_zero (set ms (p - 1) 1) ∙ sym (marked_zero ms) ∙ sym (if_eq_no 0 p true (marked ms 0) n)
-    pick (suc i) (inr n) = other i n ∙ sym (if_eq_no (suc i) p true (marked ms (suc i)) n)
-
-    at : (q : ℕ) → marked (set ms (p - 1) 1) q ≡ with_atom p (marked ms) q
-    at q = pick q (eq_case q p)
-
--- the byte at index i is that of atom i + 1
-pub marked_no : (ms : List ℕ) (i : ℕ) → get_or ms i 0 ≡ 0 → marked ms (i + 1) ≡ false
-marked_no ms i e = ap (marked ms) (add-one i) ∙ marked_suc ms i ∙ ap not (eq_i e)
-
-pub marked_yes : (ms : List ℕ) (i : ℕ) → get_or ms i 0 ≢ 0 → marked ms (i + 1) ≡ true
-marked_yes ms i n = ap (marked ms) (add-one i) ∙ marked_suc ms i ∙ ap not (contra (eqb (get_or ms i 0) 0) {b = false} (λ k. absurd (n (eq (get_or ms i 0) 0 k))) refl)
-
-pub marked_with : (ms : List ℕ) (i : ℕ) → i < length ms → marked (set ms i 1) ≡ with_atom (i + 1) (marked ms)
-marked_with ms i h =
-    let e : i ≡ i + 1 - 1 = omega arith in
-    ap (λ (j : ℕ). marked (set ms j 1)) e ∙ marked_set ms (i + 1) (omega arith) (omega arith)
-
-pub marked_none : (n p : ℕ) → marked (replicate n 0) p ≡ false
-marked_none n zero = marked_zero (replicate n 0)
-marked_none n (suc i) = marked_suc (replicate n 0) i ∙ ap (λ (v : ℕ). not (eqb v 0)) (at (lt_case i n))
+pub marked_none : (n p : ℕ) → marked (replicate n false) p ≡ false
+marked_none n zero = marked_zero (replicate n false)
+marked_none n (suc i) = marked_suc (replicate n false) i ∙ at (lt_case i n)
   where
-    at : (i < n) ⊎ (n ≤ i) → ◌≡◌ {A = ℕ} (get_or (replicate n 0) i 0) 0
-    at (inl h) = get_or-replicate n i 0 0 h
-    at (inr h) = let e = length-replicate {A = ℕ} n 0 in get_or-eq_default (replicate n 0) 0 (omega arith)
+    at : (i < n) ⊎ (n ≤ i) → ◌≡◌ {A = Bool} (get_or (replicate n false) i false) false
+    at (inl h) = get_or-replicate n i false false h
+    at (inr h) = let e = length-replicate {A = Bool} n false in get_or-eq_default (replicate n false) false (omega arith)
 
 -- ---- an array at whose first places a list stands
 

@@ -1,7 +1,7 @@
 -- The foundedness test as the code walks over the rules (01, "Reasons and jumps": "starting from none, repeatedly add p if some rule has body true, p its only
 -- true head atom and all positive body atoms added"). Definitions only; they need not be believed: the contract of `founded` speaks of `meaning`'s
 -- test, and `proofs/` ties the two.
---   marked ms        the atoms that the marks stand for: atom p's at index p - 1, any byte but 0 marks it
+--   marked ms        the atoms that the marks stand for: atom p's at index p - 1
 --   sole_of a ps      the only true atom of a head;  rest_true: negated atoms and aggregate literals are true
 --   could_of a r      the atom that rule r adds once its positive atoms are marked
 --   code_of j p       a candidate, a rule that could add atom p, as one word; the list of its positive atoms begins at j
@@ -11,7 +11,7 @@
 --   Fit t l          a list of atoms stands in the table where each candidate of l says
 --   MarksAdded       the marks hold the atoms that get added
 -- Assumes nothing.
-use Rattle.std.specs.Prelude.{ℕ, zero, suc, ◌+◌, ◌-◌, ◌*◌, ◌/◌, ◌%◌, ◌≤◌, ◌≡◌, ◌↔◌, Bool, true, false, not, ◌||◌, List, [], ◌∷◌, map, eqb, ℤ, length, get_or, take}
+use Rattle.std.specs.Prelude.{ℕ, zero, suc, ◌+◌, ◌-◌, ◌*◌, ◌/◌, ◌%◌, ◌≤◌, ◌≡◌, ◌↔◌, Bool, true, false, not, ◌||◌, List, [], ◌∷◌, map, eqb, ℤ, length, get_or, take, Option, None, Some}
 use Rattle.meaning.specs.Cond.{if_eq}
 use Rattle.meaning.specs.Lists.{Is, ◌∈◌, all}
 use Rattle.meaning.specs.Aggregates.{Atoms}
@@ -19,43 +19,39 @@ use Rattle.meaning.specs.Program.{Rule, Program}
 use Rattle.meaning.specs.Foundedness.{Added}
 use Rattle.interpretation.specs.State.{Cell, truth_of}
 use Rattle.valuing.specs.Values.{atom_lit, agg_lit}
-use Rattle.literals.specs.declared.First.{First}
-use Rattle.literals.specs.declared.First.TheVariants as first
 use Rattle.literals.specs.Scan.{first_false}
 use Rattle.rules.specs.Demand.{together, asks, is_conflict}
 use Rattle.layout.specs.Layout.{atoms, part_at, pos_at, past_rule, rule_at, Listed}
-use Rattle.foundation.specs.declared.Adds.{Adds}
-use Rattle.foundation.specs.declared.Adds.TheVariants.{Nothing, Atom}
 
-unfoldable pub marked : List ℕ → Atoms
+unfoldable pub marked : List Bool → Atoms
 marked ms zero = false
-marked ms (suc i) = not (eqb (get_or ms i 0) 0)
+marked ms (suc i) = get_or ms i false
 
 -- h is false, or it is p
 abbrev pub fits : (ℕ → Cell) → ℕ → ℕ → Bool
 fits a p h = not (truth_of (a h)) || eqb h p
 
-abbrev pub add_if : Bool → ℕ → Adds
-add_if true p = Atom p
-add_if false p = Nothing
+abbrev pub add_if : Bool → ℕ → Option ℕ
+add_if true p = Some p
+add_if false p = None
 
-abbrev pub sole_by : (ℕ → Cell) → List ℕ → First → Adds
-sole_by a ps (first.At k) = add_if (all (fits a (get_or ps k 0)) ps) (get_or ps k 0)
-sole_by a ps first.Nothing = Nothing
+abbrev pub sole_by : (ℕ → Cell) → List ℕ → Option ℕ → Option ℕ
+sole_by a ps (Some k) = add_if (all (fits a (get_or ps k 0)) ps) (get_or ps k 0)
+sole_by a ps None = None
 
 -- the head atoms are taken negated: the first false literal is the first true atom
-unfoldable pub sole_of : (ℕ → Cell) → List ℕ → Adds
+unfoldable pub sole_of : (ℕ → Cell) → List ℕ → Option ℕ
 sole_of a ps = sole_by a ps (first_false a (map (atom_lit false) ps))
 
 -- negated atoms and aggregate literals are true
 unfoldable pub rest_true : (ℕ → Cell) → Rule → Bool
 rest_true a r = is_conflict (together (asks a (map (atom_lit false) r.neg)) (asks a (map agg_lit r.aggs)))
 
-abbrev pub could_by : (ℕ → Cell) → Rule → Adds → Adds
-could_by a r Nothing = Nothing
-could_by a r (Atom p) = add_if (rest_true a r) p
+abbrev pub could_by : (ℕ → Cell) → Rule → Option ℕ → Option ℕ
+could_by a r None = None
+could_by a r (Some p) = add_if (rest_true a r) p
 
-unfoldable pub could_of : (ℕ → Cell) → Rule → Adds
+unfoldable pub could_of : (ℕ → Cell) → Rule → Option ℕ
 could_of a r = could_by a r (sole_of a r.head)
 
 -- p is false, or it is marked
@@ -76,9 +72,9 @@ place_of c = c / 256
 abbrev pub positives : List ℤ → ℕ → List ℕ
 positives t c = atoms (part_at t (place_of c))
 
-abbrev pub with_candidate : Adds → ℕ → List ℕ → List ℕ
-with_candidate Nothing j l = l
-with_candidate (Atom p) j l = code_of j p ∷ l
+abbrev pub with_candidate : Option ℕ → ℕ → List ℕ → List ℕ
+with_candidate None j l = l
+with_candidate (Some p) j l = code_of j p ∷ l
 
 unfoldable pub candidates_from : (ℕ → Cell) → List ℤ → ℕ → ℕ → List ℕ
 candidates_from a t i zero = []
@@ -121,5 +117,5 @@ walk_left t [] G = []
 walk_left t (c ∷ l) G = left_by (G (atom_of c)) (all G (positives t c)) c (walk_left t l (marks_past t c G))
 
 -- what is marked is what gets added
-abbrev pub MarksAdded : List ℕ → Program → Atoms → Type 0
+abbrev pub MarksAdded : List Bool → Program → Atoms → Type 0
 MarksAdded ms P X = (p : ℕ) → Is (marked ms p) ↔ Added P X p

@@ -67,10 +67,15 @@ module _ (a : List ℕ) (s : ℕ) where
   unfolding end_of
   end_suc p = refl
 
-  pub end_on : (p : ℕ) → end_of a s (p + 1) ≡ end_of a s p + get_or a (2 * (p + 1) + 1) 0
+  end_on : (p : ℕ) → end_of a s (p + 1) ≡ end_of a s p + get_or a (2 * (p + 1) + 1) 0
   end_on p =
       let e : suc p ≡ p + 1 = omega arith in
       ap (end_of a s) (sym e) ∙ end_suc p ∙ ap (λ (q : ℕ). end_of a s p + get_or a (2 * q + 1) 0) e
+
+  pub end_at : (p : ℕ) → 1 ≤ p → end_of a s p ≡ end_of a s (p - 1) + get_or a (2 * p + 1) 0
+  end_at p h =
+      let e : p ≡ suc (p - 1) = omega arith in
+      ap (end_of a s) e ∙ end_suc (p - 1) ∙ ap (λ (q : ℕ). end_of a s (p - 1) + get_or a (2 * q + 1) 0) (sym e)
 
   -- they rise
   end_add : (p k : ℕ) → end_of a s p ≤ end_of a s (p + k)
@@ -127,11 +132,8 @@ module _ (t : List ℤ) (tb : Table) where
 -- ---- the ends, from the first on
 
 module _ (a : List ℕ) (s : ℕ) where
-  -- the list of x = p + 1, empty so far
-  module _ (b : List ℕ) (p : ℕ) (d : Ended s p a b) (h : p < 256) where
-    abbrev x : ℕ
-    x = p + 1
-
+  -- the list of x, empty so far
+  module _ (b : List ℕ) (x : ℕ) (d : Ended s (x - 1) a b) (low : 1 ≤ x) (h : x ≤ 256) where
     abbrev e : ℕ
     e = end_of a s x
 
@@ -142,19 +144,19 @@ module _ (a : List ℕ) (s : ℕ) where
     ended_other : (i : ℕ) → i ≢ 2 * x → i ≢ 2 * x + 1 → get_or (set begun (2 * x + 1) e) i 0 ≡ get_or b i 0
     ended_other i m n = get_or-set_other begun (2 * x + 1) i e 0 n ∙ get_or-set_other b (2 * x) i e 0 m
 
-    ended_begin : (q : ℕ) → 1 ≤ q → q ≤ p + 1 → (q ≡ x) ⊎ (q ≢ x) → get_or (set begun (2 * x + 1) e) (2 * q) 0 ≡ end_of a s q
+    ended_begin : (q : ℕ) → 1 ≤ q → q ≤ x → (q ≡ x) ⊎ (q ≢ x) → get_or (set begun (2 * x + 1) e) (2 * q) 0 ≡ end_of a s q
     ended_begin q k m (inl u) =
         subst (λ (r : ℕ). get_or (set begun (2 * x + 1) e) (2 * r) 0 ≡ end_of a s r) (sym u)
         (get_or-set_other begun (2 * x + 1) (2 * x) e 0 (λ w. omega (arith, w)) ∙ get_or-set_same b (2 * x) e 0 (omega (arith, d.sized)))
     ended_begin q k m (inr n) = ended_other (2 * q) (λ w. n (omega (arith, w))) (λ w. omega (arith, w)) ∙ d.begins q k (omega (arith, n))
 
-    ended_end : (q : ℕ) → q ≤ p + 1 → (q ≡ x) ⊎ (q ≢ x) → get_or (set begun (2 * x + 1) e) (2 * q + 1) 0 ≡ end_of a s q
+    ended_end : (q : ℕ) → q ≤ x → (q ≡ x) ⊎ (q ≢ x) → get_or (set begun (2 * x + 1) e) (2 * q + 1) 0 ≡ end_of a s q
     ended_end q m (inl u) =
         subst (λ (r : ℕ). get_or (set begun (2 * x + 1) e) (2 * r + 1) 0 ≡ end_of a s r) (sym u)
         (get_or-set_same begun (2 * x + 1) e 0 (omega (arith, d.sized, length-set b (2 * x) e)))
     ended_end q m (inr n) = ended_other (2 * q + 1) (λ w. omega (arith, w)) (λ w. n (omega (arith, w))) ∙ d.ends q (omega (arith, n))
 
-    pub ended_on : Ended s (p + 1) a (set begun (2 * x + 1) e)
+    pub ended_on : Ended s x a (set begun (2 * x + 1) e)
     ended_on = record {
       sized = length-set begun (2 * x + 1) e ∙ length-set b (2 * x) e ∙ d.sized;
       behind = drop-set-lt bounds begun (2 * x + 1) e (omega arith) ∙ drop-set-lt bounds b (2 * x) e (omega arith) ∙ d.behind;
@@ -164,7 +166,7 @@ module _ (a : List ℕ) (s : ℕ) where
     }
 
     -- the counts to come stay
-    pub ended_later : (q : ℕ) → p + 1 < q → get_or (set begun (2 * x + 1) e) (2 * q + 1) 0 ≡ get_or b (2 * q + 1) 0
+    pub ended_later : (q : ℕ) → x < q → get_or (set begun (2 * x + 1) e) (2 * q + 1) 0 ≡ get_or b (2 * q + 1) 0
     ended_later q m = ended_other (2 * q + 1) (λ w. omega (arith, w)) (λ w. omega (arith, w))
 
 -- what begins and ends of list 0 change: nothing behind, and no other end

@@ -1,14 +1,12 @@
--- Parts of an array: one that grows at its end, its words, and words that are 0.
+-- Parts of an array: one that grows at its end, and its words.
 --   part a i n   the n words from index i on
 -- Assumes nothing.
 use mathlib.Core.Path.{◌≡◌, sym, ap, ◌∙◌}
 use mathlib.Core.List.{List, [], ◌∷◌, ◌++◌}
-use mathlib.Core.Logic.{◌⊎◌, inl, inr, ◌≢◌}
 use Prim.Native.Nat.{ℕ, suc, ◌+◌, ◌<◌}
 use native.Mathlib.Omega.{arith}
 use lib.ListN.{length, get_or, take, drop, set, length-drop}
-use lib.Seq.{append_snoc, drop-set-add, take-suc-set, get_or-take, get_or-drop, get_or-set_same, get_or-set_other}
-use Rattle.meaning.proofs.Cond.{eq_case}
+use lib.Seq.{append_snoc, drop-set-add, take-suc-set, get_or-take, get_or-drop}
 
 abbrev pub part : List ℕ → ℕ → ℕ → List ℕ
 part a i n = take n (drop i a)
@@ -29,13 +27,3 @@ moved a i n x l w h e = ap (λ (m : List ℕ). m ++ l) (grown a i n x h) ∙ app
 
 pub part_word : (a : List ℕ) (i n k : ℕ) (w : List ℕ) → part a i n ≡ w → k < n → get_or a (i + k) 0 ≡ get_or w k 0
 part_word a i n k w e h = sym (get_or-drop i a k 0) ∙ sym (get_or-take n (drop i a) k 0 h) ∙ ap (λ (m : List ℕ). get_or m k 0) e
-
--- ---- words that are 0
-
--- one more of them
-pub zero_on : (a : List ℕ) (i : ℕ) → i < length a → ((k : ℕ) → k < i → get_or a k 0 ≡ 0) → (k : ℕ) → k < i + 1 → get_or (set a i 0) k 0 ≡ 0
-zero_on a i h f k l = at (eq_case k i)
-  where
-    at : (k ≡ i) ⊎ (k ≢ i) → get_or (set a i 0) k 0 ≡ 0
-    at (inl e) = ap (λ (j : ℕ). get_or (set a i 0) j 0) e ∙ get_or-set_same a i 0 0 h
-    at (inr n) = get_or-set_other a i k 0 0 n ∙ f k (omega (arith, n, l))

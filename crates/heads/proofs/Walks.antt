@@ -15,11 +15,18 @@ use Rattle.meaning.specs.Lists.{has}
 use Rattle.meaning.proofs.Cond.{eq_case}
 use Rattle.meaning.proofs.Tools.{eq_i, neq_i}
 use Rattle.layout.specs.Layout.{atoms, Members, part_at, past_rule, rule_at}
+use Rattle.std.specs.List.{list_any}
 use Rattle.heads.specs.Heads.{places_from, with_head}
 
 -- what a slice from index i on has
 pub from_on : {A : Type 0} (i : ℕ) (l : List A) → take (length l - i) (drop i l) ≡ drop i l
 from_on i l = take_all (length l - i) (drop i l) (omega (arith, length-drop i l))
+
+-- what the slice behind index i - 1 has, and whether an atom is there
+pub later : (l : List ℤ) (i p : ℕ) → 0 < i → {b : Bool} → b ≡ has p (atoms (take (length l - (i - 1 + 1)) (drop (i - 1 + 1) l))) → has p (atoms (drop i l)) ≡ b
+later l i p h e =
+    let back : i - 1 + 1 ≡ i = omega arith in
+    ap (λ (m : List ℤ). has p (atoms m)) (sym (ap (λ (k : ℕ). take (length l - k) (drop k l)) back ∙ from_on i l)) ∙ sym e
 
 -- ---- a list of atoms
 
@@ -46,6 +53,19 @@ module _ (l : List ℤ) (i : ℕ) (p : ℕ) where
 
   pub has_end : length l ≤ i → has p (atoms (drop i l)) ≡ false
   has_end h = ap (λ (s : List ℤ). has p (atoms s)) (drop_of_length-le l h) ∙ has_nil
+
+-- the test of each number in turn
+same_asked : (a b : ℕ) → eqb a b ≡ eqb b a
+same_asked a b = at (eq_case a b)
+  where
+    at : (a ≡ b) ⊎ (a ≢ b) → eqb a b ≡ eqb b a
+    at (inl e) = eq_i e ∙ sym (eq_i (sym e))
+    at (inr n) = neq_i a b n ∙ sym (neq_i b a (λ e. n (sym e)))
+
+pub has_any : (p : ℕ) (l : List ℤ) → list_any (λ (w : ℤ). eqb (nat_abs w) p) l ≡ has p (atoms l)
+unfolding has
+has_any p [] = refl
+has_any p (x ∷ l) = ap (λ (b : Bool). b || list_any (λ (w : ℤ). eqb (nat_abs w) p) l) (same_asked (nat_abs x) p) ∙ ap (λ (b : Bool). eqb p (nat_abs x) || b) (has_any p l)
 
 -- an atom of those from index k on is in the list
 pub has_from : (p k : ℕ) (l : List ℤ) → has p (atoms (drop k l)) ≡ true → has p (atoms l) ≡ true

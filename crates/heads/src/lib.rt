@@ -7,10 +7,10 @@
 
 ghost use Rattle.std.specs.Prelude.{◌≡◌, List, [], ℕ, ◌+◌, ◌*◌, ◌≤◌, ◌<◌, length, get_or, take, drop};
 ghost use Rattle.meaning.specs.Lists.{has};
-ghost use Rattle.layout.specs.Layout.{atoms, Members, Laid};
+ghost use Rattle.layout.specs.Layout.{atoms, Members};
 ghost use Rattle.heads.specs.Heads.{bounds, size, places_of, list_at, Whole, Counted, Counts, end_of, Ended, Regions, Room, Put};
 
-use layout::Table;
+use layout::{Accepted, Table};
 
 // The words that say where lists begin and end: two for list 0 and two for each atom.
 pub const BOUNDS: usize = 2 * (Table::ATOMS + 1);
@@ -37,14 +37,7 @@ pub fn list(lists: &[u16], p: usize) -> &[u16]
 pub fn has_atom(l: &[i32], p: usize) -> bool
     ensures { result ≡ has p (atoms l.now) }
 {
-    let mut i: usize = 0;
-    while i < l.len() {
-        if words::atom(l, i) == p {
-            return true;
-        }
-        i += 1;
-    }
-    false
+    l.iter().any(|w| words::size(*w) == p)
 }
 
 // The words that say where lists begin and end, all 0.
@@ -52,27 +45,19 @@ pub fn clear(lists: &mut [u16])
     requires { length lists.old ≡ size }
     ensures { (length lists.new ≡ size) × ((i : ℕ) → i < bounds → get_or lists.new i 0 ≡ 0) }
 {
-    let mut i: usize = 0;
-    while i < BOUNDS {
-        lists[i] = 0;
-        i += 1;
-    }
+    lists[..BOUNDS].fill(0);
 }
 
 // Where each rule begins, written from index `BOUNDS` on: list 0.
-pub fn rules(t: &[i32], tb: Table, lists: &mut [u16])
-    requires { Laid t.now tb × (length lists.old ≡ size) }
+pub fn rules(t: &Accepted, lists: &mut [u16])
+    requires { (length lists.old ≡ size) }
     ensures { (length lists.new ≡ size) × (take bounds lists.new ≡ take bounds lists.old)
-        × (take tb.rules (drop bounds lists.new) ≡ places_of t.now tb) }
+        × (take t.now.places.rules (drop bounds lists.new) ≡ places_of t.now.words.now t.now.places) }
 {
-    let mut at = tb.first;
-    let mut i: usize = 0;
-    while i < tb.rules {
-        let place = BOUNDS + i;
-        lists[place] = at as u16;
-        let next = layout::past_rule(t, at);
-        at = next;
-        i += 1;
+    let mut at = t.places.first;
+    for i in 0..t.places.rules {
+        lists[BOUNDS + i] = at as u16;
+        at = layout::past_rule(t.words, at);
     }
 }
 
@@ -82,30 +67,22 @@ pub fn count_head(head: &[i32], lists: &mut [u16])
     requires { Members 256 head.now × (length lists.old ≡ size) × ((p : ℕ) → p ≤ 256 → get_or lists.old (2 * p + 1) 0 ≤ 1024) }
     ensures { Counted (atoms head.now) lists.old lists.new }
 {
-    let mut i = head.len();
-    while 0 < i {
-        let later = &head[i..];
-        i -= 1;
+    for i in (0..head.len()).rev() {
         let p = words::atom(head, i);
-        if !has_atom(later, p) {
-            let end = 2 * p + 1;
-            lists[end] = lists[end] + 1;
+        if !has_atom(&head[i + 1..], p) {
+            lists[2 * p + 1] += 1;
         }
     }
 }
 
 // The rules with each atom in the head, counted.
-pub fn count(t: &[i32], tb: Table, lists: &mut [u16])
-    requires { Laid t.now tb × Counts t.now tb [] lists.old }
-    ensures { Counts t.now tb (places_of t.now tb) lists.new }
+pub fn count(t: &Accepted, lists: &mut [u16])
+    requires { Counts t.now.words.now t.now.places [] lists.old }
+    ensures { Counts t.now.words.now t.now.places (places_of t.now.words.now t.now.places) lists.new }
 {
-    let mut counted: usize = 0;
-    while counted < tb.rules {
-        counted += 1;
-        let r = tb.rules - counted;
-        let place = BOUNDS + r;
-        let at = lists[place] as usize;
-        let head = layout::part(t, at);
+    for r in (0..t.places.rules).rev() {
+        let at = lists[BOUNDS + r] as usize;
+        let head = layout::part(t.words, at);
         count_head(head, lists);
     }
 }
@@ -118,63 +95,52 @@ pub fn ends(rules: usize, lists: &mut [u16])
     let mut end = BOUNDS + rules;
     lists[0] = BOUNDS as u16;
     lists[1] = end as u16;
-    let mut p: usize = 0;
-    while p < Table::ATOMS {
-        p += 1;
+    for p in 1..Table::ATOMS + 1 {
         let begins = 2 * p;
         let ends = begins + 1;
-        let count = lists[ends] as usize;
-        end += count;
+        end += lists[ends] as usize;
         lists[begins] = end as u16;
         lists[ends] = end as u16;
     }
 }
 
 // One rule put at the front of the list of each atom of its head. For an atom that stands again later in the head it is put there.
+// Stays: a walk shared with `count_head` would take a closure that writes the lists, and its contract would be longer than the four lines.
 pub fn put_head(head: &[i32], rule: u16, lists: &mut [u16])
     requires { Members 256 head.now × Regions lists.old × Room (atoms head.now) lists.old }
     ensures { Put (atoms head.now) rule lists.old lists.new }
 {
-    let mut i = head.len();
-    while 0 < i {
-        let later = &head[i..];
-        i -= 1;
+    for i in (0..head.len()).rev() {
         let p = words::atom(head, i);
-        if !has_atom(later, p) {
+        if !has_atom(&head[i + 1..], p) {
             let begins = 2 * p;
             let front = lists[begins] - 1;
-            let place = front as usize;
-            lists[place] = rule;
+            lists[front as usize] = rule;
             lists[begins] = front;
         }
     }
 }
 
 // All rules put into their lists, from the last to the first, where each list is empty and its end is known.
-pub fn put_rules(t: &[i32], tb: Table, lists: &mut [u16])
-    requires { Laid t.now tb × ((a : List ℕ) × Counts t.now tb (places_of t.now tb) a × Ended (bounds + tb.rules) 256 a lists.old) }
-    ensures { Whole t.now tb lists.new }
+pub fn put_rules(t: &Accepted, lists: &mut [u16])
+    requires { ((a : List ℕ) × Counts t.now.words.now t.now.places (places_of t.now.words.now t.now.places) a × Ended (bounds + t.now.places.rules) 256 a lists.old) }
+    ensures { Whole t.now.words.now t.now.places lists.new }
 {
-    let mut done: usize = 0;
-    while done < tb.rules {
-        done += 1;
-        let r = tb.rules - done;
-        let place = BOUNDS + r;
-        let rule = lists[place];
-        let at = rule as usize;
-        let head = layout::part(t, at);
+    for last in (0..t.places.rules).rev() {
+        let rule = lists[BOUNDS + last];
+        let head = layout::part(t.words, rule as usize);
         put_head(head, rule, lists);
     }
 }
 
 // The lists of an accepted table.
-pub fn fill(t: &[i32], tb: Table, lists: &mut [u16])
-    requires { Laid t.now tb × (length lists.old ≡ size) }
-    ensures { Whole t.now tb lists.new }
+pub fn fill(t: &Accepted, lists: &mut [u16])
+    requires { (length lists.old ≡ size) }
+    ensures { Whole t.now.words.now t.now.places lists.new }
 {
     clear(lists);
-    rules(t, tb, lists);
-    count(t, tb, lists);
-    ends(tb.rules, lists);
-    put_rules(t, tb, lists);
+    rules(t, lists);
+    count(t, lists);
+    ends(t.places.rules, lists);
+    put_rules(t, lists);
 }

@@ -4,15 +4,14 @@
 #![tactic(auto)]
 
 ghost use Rattle.std.specs.Prelude.{◌≡◌, ◌≤◌, length};
-ghost use Rattle.judging.specs.Judging.{Judged, JudgedBy, JudgedWords, Filled, refused_reading, fault_of};
+ghost use Rattle.judging.specs.Judging.{Judged, JudgedBy, JudgedWords, Filled, fault_of};
 
-use depend::Cycle;
 use heads::Lists;
-use layout::Table;
+use layout::{Accepted, Table};
 use results::Refusal;
-use table::{Fault, Reading};
 
 // The buffer that an entry is lent for what it writes or reads, as far as it is judged with the table.
+// Stays: three answers to one question, each named at its entry; an Option around two of them would name none of the first.
 #[derive(Clone, Copy)]
 pub enum Buffer {
     // None is judged here.
@@ -27,87 +26,62 @@ pub enum Buffer {
 pub const ROOM: usize = 256;
 
 // The refusal that an entry's own buffer earns in the place of 10.
-fn earned(buffer: Buffer) -> Fault
+fn earned(buffer: Buffer) -> Result<(), Refusal>
     ensures { result ≡ fault_of buffer }
 {
     match buffer {
-        Buffer::Nothing => Fault::Nothing,
+        Buffer::Nothing => Ok(()),
         Buffer::Plan(room) => {
             if room < ROOM {
-                return Fault::Refused(Refusal::ShortPlan);
+                return Err(Refusal::ShortPlan);
             }
-            Fault::Nothing
+            Ok(())
         }
         Buffer::Rows(room) => {
             if 0 < room % ROOM {
-                return Fault::Refused(Refusal::PartRow);
+                return Err(Refusal::PartRow);
             }
-            Fault::Nothing
+            Ok(())
         }
-    }
-}
-
-// A refusal: there are no places.
-fn refused(f: Refusal) -> Reading
-    ensures { result ≡ refused_reading f }
-{
-    let starts = [0u16; Table::AGGREGATES];
-    let table = Table {
-        atoms: 0,
-        aggregates: 0,
-        rules: 0,
-        first: 0,
-        starts,
-    };
-    Reading {
-        table,
-        fault: Fault::Refused(f),
     }
 }
 
 // The words alone, of which there are not too many: the first faulty word, 3, 8 and 9. The lists of rules by head are made before 8 and 9 are asked.
-fn words_judged(words: &[i32], cycles: bool, lists: &mut Lists) -> Reading
+fn words_judged(words: &[i32], cycles: bool, lists: &mut Lists) -> Result<Table, Refusal>
     ensures { JudgedWords cycles words.now result × Filled words.now result lists.new }
 {
-    let reading = table::read(words);
-    let fault = reading.fault;
-    match fault {
-        Fault::Refused(_) => reading,
-        Fault::Nothing => {
-            let tb = reading.table;
-            heads::fill(words, tb, lists);
-            let cycle = depend::refusal(words, tb, cycles, lists);
-            match cycle {
-                Cycle::Nothing => reading,
-                Cycle::Refused(f) => refused(f),
-            }
-        }
-    }
+    let places = table::read(words)?;
+    let t = Accepted { words, places };
+    heads::fill(&t, lists);
+    depend::refusal(&t, cycles, lists)?;
+    Ok(places)
 }
 
 // Where the parts of an accepted table stand, with its lists of rules by head; or why it is refused. What the lists held before does not matter.
-pub fn judge_in(words: &[i32], cycles: bool, buffer: Buffer, lists: &mut Lists) -> Reading
+pub fn judge_in(
+    words: &[i32],
+    cycles: bool,
+    buffer: Buffer,
+    lists: &mut Lists,
+) -> Result<Table, Refusal>
     ensures { JudgedBy cycles words.now buffer result × Filled words.now result lists.new }
 {
     if Table::WORDS < words.len() {
-        return refused(Refusal::TooManyWords);
+        return Err(Refusal::TooManyWords);
     }
-    let bad = earned(buffer);
-    match bad {
-        Fault::Refused(f) => refused(f),
-        Fault::Nothing => words_judged(words, cycles, lists),
-    }
+    earned(buffer)?;
+    words_judged(words, cycles, lists)
 }
 
 // The same where head cycles are refused.
-pub fn judge_by(words: &[i32], buffer: Buffer, lists: &mut Lists) -> Reading
+pub fn judge_by(words: &[i32], buffer: Buffer, lists: &mut Lists) -> Result<Table, Refusal>
     ensures { Judged words.now buffer result × Filled words.now result lists.new }
 {
     judge_in(words, false, buffer, lists)
 }
 
 // Where the parts of an accepted table stand, or why it is refused; head cycles are refused.
-pub fn judge(words: &[i32], buffer: Buffer) -> Reading
+pub fn judge(words: &[i32], buffer: Buffer) -> Result<Table, Refusal>
     ensures { Judged words.now buffer result }
 {
     let mut lists = [0u16; heads::SIZE];

@@ -27,7 +27,7 @@ use Rattle.steps.specs.Steps.{step_e, step_atom, atom_pass, Work}
 use Rattle.steps.proofs.Ending.{missing}
 use Rattle.support.specs.Asking.{ask_of, forced_of, blame_of}
 use Rattle.support.specs.declared.Ask.TheVariants as ask
-use Rattle.support.specs.declared.Next.TheVariants as next
+use Rattle.std.specs.Prelude.{Some, None}
 use Rattle.support.proofs.Atom.{ask_alone, sole_lies, sole_sets}
 use Rattle.support.proofs.Forcing.{forced_alone, forced_open, forced_set}
 use Rattle.propagation.specs.Propagation.{work}
@@ -42,7 +42,7 @@ pub record SoleRule (t : List ℤ) (tb : Table) (it : Interpretation) (i : ℕ) 
   pub lies : RuleLies tb.atoms tb.aggregates t i
   pub atom : ℕ
   pub sign : Bool
-  pub asks : forced_of (cells it.values it.records) (rule_at t i) ≡ next.Set atom sign
+  pub asks : forced_of (cells it.values it.records) (rule_at t i) ≡ Some (atom, sign)
 
 pub sole_rule : (t : List ℤ) (tb : Table) (it : Interpretation) (p i : ℕ) → Laid t tb → ask_of t tb (valued it.values) p ≡ ask.Sole i → SoleRule t tb it i
 sole_rule t tb it p i laid h =
@@ -58,12 +58,12 @@ pub record Aimed (t : List ℤ) (tb : Table) (it : Interpretation) (i q : ℕ) (
   pub inside : q ≤ tb.atoms
   pub few : q ≤ 256
   pub unset : cells it.values it.records q ≡ undefined
-  pub asks : forced_of (cells it.values it.records) (rule_at t i) ≡ next.Set q v
+  pub asks : forced_of (cells it.values it.records) (rule_at t i) ≡ Some (q, v)
 
-pub aimed : (t : List ℤ) (tb : Table) (it it0 : Interpretation) (i q : ℕ) (v : Bool) → Laid t tb → SoleRule t tb it0 i → forced_of (valued it.values) (rule_at t i) ≡ next.Set q v → Aimed t tb it i q v
+pub aimed : (t : List ℤ) (tb : Table) (it it0 : Interpretation) (i q : ℕ) (v : Bool) → Laid t tb → SoleRule t tb it0 i → forced_of (valued it.values) (rule_at t i) ≡ Some (q, v) → Aimed t tb it i q v
 aimed t tb it it0 i q v laid s h =
     let r = rule_at t i in
-    let e : forced_of (cells it.values it.records) r ≡ next.Set q v = forced_alone r it.values it.records ∙ h in
+    let e : forced_of (cells it.values it.records) r ≡ Some (q, v) = forced_alone r it.values it.records ∙ h in
     let o = forced_open r tb.atoms (rule_in_lem t tb laid i s.lies) (cells it.values it.records) q v e in
     let k = o.0.1 in
     let f = laid.few_atoms in
@@ -129,7 +129,7 @@ module _ (t : List ℤ) (tb : Table) (lists : List ℕ) (it : Interpretation) (r
   pub calm_forces : (whole : List ℕ) → row whole ≡ union (rows reasons p) (blame_of (valued it.values) (rows reasons) p (program_of t tb)) → Laid t tb
       → (i : ℕ) (it' : Interpretation) (rs : List (List ℕ)) → ask_of t tb (valued it.values) p ≡ ask.Sole i → length rs ≡ 256 → Kept (view it) (view it')
       → step_e (some (rule_at t i)) (row whole) (work it' rs true) ≡ step_e (some (rule_at t i)) (row whole) (work it reasons true)
-      → forced_of (valued it'.values) (rule_at t i) ≡ next.Nothing → Calm2 it' rs (get_or lists 1 0) tb.atoms true p
+      → forced_of (valued it'.values) (rule_at t i) ≡ None → Calm2 it' rs (get_or lists 1 0) tb.atoms true p
   calm_forces whole f laid i it' rs e n k z h =
       let s = sole_rule t tb it p i laid e in
       calm_changed it' rs (atom_forces it reasons b t tb p whole f i s.atom s.sign it' rs e s.asks k n z (forced_alone (rule_at t i) it'.values it'.records ∙ h))

@@ -5,7 +5,6 @@
 // the loop of `search_by`, so that the reasons exist once.
 #![tactic(auto)]
 
-ghost use Rattle.layout.specs.Layout.{Laid};
 ghost use Rattle.heads.specs.Heads.{Listed, taking};
 ghost use Rattle.smaller.specs.Cyclic.{base_by};
 ghost use Rattle.jumping.specs.Jumping.{Ready, Searches, Solves};
@@ -13,16 +12,15 @@ ghost use Rattle.jumping.specs.Jumping.{Ready, Searches, Solves};
 use foundation::Candidates;
 use heads::Lists;
 use interpretation::Interpretation;
-use layout::Table;
+use layout::Accepted;
 use outcome::{Ending, Found, Halt, Outcome, Start};
 use rules::Step;
-use support::{Ask, Next};
+use support::Ask;
 use turns::{Back, Turn};
 
 // The search over the rules of list 0, by the lists of the table's rules: propagate, then answer, end, open a level or go back, and again.
 pub fn search_by(
-    t: &[i32],
-    tb: Table,
+    t: &Accepted,
     cycles: bool,
     lists: &Lists,
     limit: u32,
@@ -30,15 +28,15 @@ pub fn search_by(
     rows0: [[u64; 4]; 256],
     candidates: &mut Candidates,
 ) -> Halt
-    requires { Laid t.now tb × Listed t.now tb lists.now × Ready tb.atoms limit from }
-    ensures { Searches (base_by cycles (taking t.now lists.now) tb.atoms) limit from rows0 result }
+    requires { Listed t.now.words.now t.now.places lists.now × Ready t.now.places.atoms limit from }
+    ensures { Searches (base_by cycles (taking t.now.words.now lists.now) t.now.places.atoms) limit from rows0 result }
 {
     let mut it = from.it;
     let mut reasons = rows0;
     let mut choices = from.choices;
     let mut skips = from.skips;
     let mut most = from.passes;
-    let n = tb.atoms;
+    let n = t.places.atoms;
     let first = lists[0] as usize;
     let end = lists[1] as usize;
     'turns: loop {
@@ -50,18 +48,19 @@ pub fn search_by(
             let mut changed = false;
             let mut quiet = first; // from there on the rules passed ask nothing now
             let mut r = first;
+            // Stays: two counted loops: an atom that is set moves the ends of both, and a range keeps the end with which it began.
             'rules: while r < rules_to {
                 let at = lists[r] as usize;
-                let s = rules::demand(t, tb, at, &it.values);
+                let s = rules::demand(t, at, &it.values);
                 match s {
                     Step::Nothing => {}
                     Step::Conflict => {
-                        let reason = rules::reason(t, tb, at, &it.values, &reasons);
+                        let reason = rules::reason(t, at, &it.values, &reasons);
                         why = reason;
                         break 'passes Outcome::Conflict;
                     }
                     Step::Set(q, v) => {
-                        let reason = rules::reason(t, tb, at, &it.values, &reasons);
+                        let reason = rules::reason(t, at, &it.values, &reasons);
                         let i = q - 1;
                         reasons[i] = reason;
                         it = it.set(q, v);
@@ -77,18 +76,16 @@ pub fn search_by(
             let mut last: usize = 0; // above it the atoms passed ask nothing now
             let mut p: usize = 1;
             'atoms: while p <= atoms_to {
-                let a = support::asked(t, tb, lists, p, &it.values);
+                let a = support::asked(t, lists, p, &it.values);
                 match a {
                     Ask::Nothing => {}
                     Ask::Conflict => {
-                        let whole = propagation::whole_reason(
-                            t, tb, lists, p, &it.values, &reasons,
-                        );
+                        let whole = propagation::whole_reason(t, lists, p, &it.values, &reasons);
                         why = whole;
                         break 'passes Outcome::Conflict;
                     }
                     Ask::Unset => {
-                        let others = support::blame(t, tb, lists, p, &it.values, &reasons);
+                        let others = support::blame(t, lists, p, &it.values, &reasons);
                         let i = p - 1;
                         reasons[i] = others;
                         it = it.set(p, false);
@@ -98,19 +95,11 @@ pub fn search_by(
                         atoms_to = n;
                     }
                     Ask::Sole(place) => {
-                        let whole = propagation::whole_reason(
-                            t, tb, lists, p, &it.values, &reasons,
-                        );
-                        'sets: loop {
-                            let f = support::forced(t, tb, place, &it.values);
-                            match f {
-                                Next::Nothing => break 'sets,
-                                Next::Set(q, v) => {
-                                    let j = q - 1;
-                                    reasons[j] = whole;
-                                    it = it.set(q, v);
-                                }
-                            }
+                        let whole = propagation::whole_reason(t, lists, p, &it.values, &reasons);
+                        'sets: while let Some((q, v)) = support::forced(t, place, &it.values) {
+                            let j = q - 1;
+                            reasons[j] = whole;
+                            it = it.set(q, v);
                         }
                         changed = true;
                         last = p;
@@ -128,7 +117,7 @@ pub fn search_by(
         };
         most = turns::greater(most, made);
         let turn = turns::decide(
-            t, tb, cycles, lists, out, &it.values, choices, limit, candidates,
+            t, cycles, lists, out, &it.values, choices, limit, candidates,
         );
         match turn {
             Turn::Answer(spent) => {
@@ -193,15 +182,14 @@ pub fn search_by(
 
 // The search over an accepted table from its start, by the lists of its rules: those of list 0 take part. What the candidates' array held before does not matter.
 pub fn search(
-    t: &[i32],
-    tb: Table,
+    t: &Accepted,
     cycles: bool,
     lists: &Lists,
     limit: u32,
     candidates: &mut Candidates,
 ) -> Found
-    requires { Laid t.now tb × Listed t.now tb lists.now }
-    ensures { Solves (base_by cycles (taking t.now lists.now) tb.atoms) limit result }
+    requires { Listed t.now.words.now t.now.places lists.now }
+    ensures { Solves (base_by cycles (taking t.now.words.now lists.now) t.now.places.atoms) limit result }
 {
     let it = Interpretation::start();
     let from = Start {
@@ -211,6 +199,6 @@ pub fn search(
         passes: 0,
     };
     let reasons = levels::no_rows();
-    let halt = search_by(t, tb, cycles, lists, limit, from, reasons, candidates);
+    let halt = search_by(t, cycles, lists, limit, from, reasons, candidates);
     halt.found
 }

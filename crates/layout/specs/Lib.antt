@@ -1,2 +1,4 @@
 -- The definitions that the contracts cite.
 pub mod Layout
+pub mod Props
+pub mod Accepted

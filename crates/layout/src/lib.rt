@@ -6,7 +6,8 @@
 
 ghost use Rattle.std.specs.Prelude.{◌≡◌, ◌+◌, ◌-◌, ◌*◌, ◌≤◌, ◌<◌, length, get_or, T, nat_abs, pos};
 ghost use Rattle.std.specs.Int.Signed.{non_neg};
-ghost use Rattle.layout.specs.Layout.{nat_at, part_at, past_at, function_by, comparison_by, pairs_at, past_aggregate, aggs_at, past_rule};
+ghost use Rattle.layout.specs.Props.{Laid_prop};
+ghost use Rattle.layout.specs.Layout.{nat_at, part_at, past_at, function_by, comparison_by, pairs_at, past_aggregate, aggs_at, past_rule, Laid};
 
 use meaning::{Comparison, Function};
 
@@ -19,6 +20,14 @@ pub struct Table {
     pub rules: usize,
     pub first: usize,
     pub starts: [u16; Table::AGGREGATES],
+}
+
+// An accepted table: its words, and where their parts stand. That all parts lie within the words and within 01's ranges comes with it.
+#[derive(Clone, Copy)]
+pub struct Accepted<'a> {
+    pub words: &'a [i32],
+    pub places: Table,
+    ghost laid: { Laid words.now places } by { Laid_prop words.now places },
 }
 
 // Where reading stands: the index of the next word.
@@ -81,6 +90,7 @@ pub fn past(t: &[i32], at: usize) -> usize
 }
 
 // The same list, and the index past it, where the count is known not to be negative.
+// Stays: beside `part` and `past` these two save up to 8 % of a solve's instructions, and they ask for what readers of literals cannot show.
 pub fn plain_part(t: &[i32], at: usize) -> &[i32]
     requires { (past_at t.now at ≤ length t.now) × T (non_neg (get_or t.now at (pos 0))) }
     ensures { result.now ≡ part_at t.now at }
@@ -135,17 +145,12 @@ pub fn function(t: &[i32], at: usize) -> Function
     requires { at < length t.now }
     ensures { result ≡ function_by (nat_at t.now at) }
 {
-    let n = words::atom(t, at);
-    if n == 0 {
-        return Function::Count;
+    match words::atom(t, at) {
+        0 => Function::Count,
+        1 => Function::Sum,
+        2 => Function::Min,
+        _ => Function::Max,
     }
-    if n == 1 {
-        return Function::Sum;
-    }
-    if n == 2 {
-        return Function::Min;
-    }
-    Function::Max
 }
 
 // Its comparison.
@@ -153,10 +158,8 @@ pub fn comparison(t: &[i32], at: usize) -> Comparison
     requires { at + 1 < length t.now }
     ensures { result ≡ comparison_by (nat_at t.now (at + 1)) }
 {
-    let place = at + 1;
-    let n = words::atom(t, place);
-    if n == 0 {
-        return Comparison::Less;
+    match words::atom(t, at + 1) {
+        0 => Comparison::Less,
+        _ => Comparison::Greater,
     }
-    Comparison::Greater
 }

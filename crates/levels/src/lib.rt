@@ -43,7 +43,7 @@ pub fn with(mut a: [u64; 4], l: usize) -> [u64; 4]
     let j = l - 1;
     let k = j / 64;
     let b = 1u64 << (j % 64);
-    a[k] = a[k] | b;
+    a[k] |= b;
     a
 }
 
@@ -71,10 +71,8 @@ pub fn upto(k: usize) -> [u64; 4]
     ensures { row result ≡ up_to k }
 {
     let mut a = empty();
-    let mut l: usize = 0;
-    while l < k {
-        l += 1;
-        let next = with(a, l);
+    for below in 0..k {
+        let next = with(a, below + 1);
         a = next;
     }
     a
@@ -85,12 +83,10 @@ pub fn highest(a: [u64; 4], k: usize) -> usize
     requires { k ≤ 256 }
     ensures { result ≡ highest (row a) k }
 {
-    let mut l = k;
-    while 0 < l {
+    for l in (1..=k).rev() {
         if has(a, l) {
             return l;
         }
-        l -= 1;
     }
     0
 }

@@ -2,6 +2,7 @@
 use mathlib.Core.Path.{◌≡◌, refl, sym, ◌∙◌, ap, subst}
 use mathlib.Core.Option.{some}
 use mathlib.Core.List.{List}
+use Rattle.std.specs.Prelude.{Result, Ok, Err}
 use Prim.Native.Nat.{ℕ, ◌≤◌}
 use lib.IntN.{ℤ}
 use lib.ListN.{length}
@@ -12,9 +13,9 @@ use Rattle.results.specs.declared.Refusal.{Refusal}
 use Rattle.results.specs.declared.Ask.{Ask}
 use Rattle.results.specs.declared.Counts.{Counts}
 use Rattle.results.specs.declared.Listed.{Listed}
-use Rattle.results.specs.declared.Listed.TheVariants as listed
 use Rattle.results.specs.Results.{number_of, place_of, ListReport, list_report_of, refusal_listing}
-use Rattle.search.specs.Search.{Result, answer, no_answer, limit, jump}
+use Rattle.search.specs.Search as defined
+use Rattle.search.specs.Search.{answer, no_answer, limit, jump}
 use Rattle.search.specs.Listing as listing
 use Rattle.search.specs.Listing.{list_all}
 use Rattle.smaller.specs.Cyclic.{base_by}
@@ -33,7 +34,7 @@ use Rattle.lister.specs.Listing.{Listing}
 use Rattle.lister.specs.Telling.{result_by, result_of}
 use Rattle.lister.proofs.Rows.{with_same}
 
-module _ (t : List ℤ) (ask : Ask) (old new : List ℕ) (r : Listed) (f : Refusal) (h : RefusedBy ask.cycles t (Rows (length old)) (number_of f) (place_of f)) (e : r ≡ listed.Refused f) where
+module _ (t : List ℤ) (ask : Ask) (old new : List ℕ) (r : Result Listed Refusal) (f : Refusal) (h : RefusedBy ask.cycles t (Rows (length old)) (number_of f) (place_of f)) (e : r ≡ Err f) where
   told : list_report_of r ≡ refusal_listing (number_of f) (place_of f)
   told = ap list_report_of e
 
@@ -57,7 +58,7 @@ module _ (t : List ℤ) (ask : Ask) (old new : List ℕ) (r : Listed) (f : Refus
   }
 
 -- what is told of the listing's end is the result that reports it
-told_same : (x : Result) (m : ℕ) (k : Counts) → result_by (code.kind_by x) m k ≡ listed_by x m k
+told_same : (x : defined.Result) (m : ℕ) (k : Counts) → result_by (code.kind_by x) m k ≡ listed_by x m k
 told_same (answer X) m k = refl
 told_same no_answer m k = refl
 told_same limit m k = refl
@@ -73,7 +74,7 @@ module _ (t : List ℤ) (ask : Ask) (old new : List ℕ) (c : Contents) (a : Acc
   kept : new ≡ code.rows_with o.plans old → new ≡ rows_with c.atoms o.plans old
   kept k = k ∙ with_same c.atoms le o.plans (λ X m. L.range X (listed_are_answers (AnswerSet (program c)) (base_by ask.cycles (program c) c.atoms) L ask.limit (rooms old) jump o e X m)) old
 
-  pub listing_accepted : (r : Listed) → r ≡ listed_as o → new ≡ code.rows_with o.plans old → Listing t ask old new r
+  pub listing_accepted : (r : Result Listed Refusal) → r ≡ Ok (listed_as o) → new ≡ code.rows_with o.plans old → Listing t ask old new r
   listing_accepted r told k =
       let m = lists_means (AnswerSet (program c)) (base_by ask.cycles (program c) c.atoms) L refl ask.limit old new r o e told (kept k) in
       let s = lists_searches (AnswerSet (program c)) (base_by ask.cycles (program c) c.atoms) L refl ask.limit old new r o e told (kept k) (λ i q. passes≤ (program c) c.atoms i q) in

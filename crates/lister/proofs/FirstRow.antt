@@ -1,6 +1,7 @@
 -- "the first row of a listing is what `solve` answers": of the same accepted table with the same limit, where there is room for a row. Assumes nothing.
 --   first_row    where `solve` answers, a plan is listed, and the first row and the plan's bytes say the same atoms
 --   row_answered where a plan is listed, `solve` answers
+use Rattle.std.specs.Prelude.{Result, Ok}
 use Prim.Native.Nat.{ℕ, zero, suc, ◌-◌, ◌*◌, ◌≤◌}
 use mathlib.Core.Path.{◌≡◌, refl, sym, ◌∙◌, ap}
 use mathlib.Core.Option.{some}
@@ -11,13 +12,15 @@ use lib.ListN.{length, take, drop, replicate, length-append, length-replicate}
 use lib.Seq.{take_at}
 use Rattle.meaning.specs.Aggregates.{Atoms}
 use Rattle.meaning.specs.Answers.{AnswerSet}
+use Rattle.results.specs.declared.Refusal.{Refusal}
 use Rattle.results.specs.declared.Ask.{Ask}
 use Rattle.results.specs.declared.Counts.{Counts}
 use Rattle.results.specs.declared.Listed.{Listed}
 use Rattle.results.specs.declared.Solved.{Solved}
 use Rattle.results.specs.declared.Solved.TheVariants as solved
 use Rattle.results.specs.Results.{listed_of, kind_of}
-use Rattle.search.specs.Search.{Result, answer, no_answer, limit, jump, Outcome}
+use Rattle.search.specs.Search as defined
+use Rattle.search.specs.Search.{answer, no_answer, limit, jump, Outcome}
 use Rattle.smaller.specs.Cyclic.{base_by}
 use Rattle.search.specs.Listing as listing
 use Rattle.table.specs.Contents.{Contents, program}
@@ -45,7 +48,7 @@ row_first n le X rest old =
     ap (take 256) (append_assoc (row_of n X) (rows_of n rest) (drop (256 * length (X ∷ rest)) old))
     ∙ take_at (row_of n X) (rows_of n rest ++ drop (256 * length (X ∷ rest)) old) 256 (row_length n le X)
 
-module _ (t : List ℤ) (ask : Ask) (old new : List ℕ) (r : Listed) (plan shown : List ℕ) (s : Solved) (c : Contents) (a : AcceptedBy ask.cycles t (Rows (length old)) c) (b : AcceptedBy ask.cycles t (Plan (length plan)) c)
+module _ (t : List ℤ) (ask : Ask) (old new : List ℕ) (r : Result Listed Refusal) (plan shown : List ℕ) (s : Result Solved Refusal) (c : Contents) (a : AcceptedBy ask.cycles t (Rows (length old)) c) (b : AcceptedBy ask.cycles t (Plan (length plan)) c)
     (room : 256 ≤ length old) (L : Listing t ask old new r) (S : Solving t ask plan shown s) where
   o : Outcome
   o = (S.searching c b).0
@@ -71,8 +74,8 @@ module _ (t : List ℤ) (ask : Ask) (old new : List ℕ) (r : Listed) (plan show
   unfolding k
   lists = let e : rooms old ≡ suc (rooms old - 1) = omega arith in ap (listing.list_all (base_by ask.cycles (program c) c.atoms) jump ask.limit) (sym e) ∙ listed.jumping
 
-  told : (x : Result) → o.result ≡ x → s ≡ solved_by x (counted o)
-  told x i = searched.result ∙ ap (λ (y : Result). solved_by y (counted o)) i
+  told : (x : defined.Result) → o.result ≡ x → s ≡ Ok (solved_by x (counted o))
+  told x i = searched.result ∙ ap (λ (y : defined.Result). Ok (solved_by y (counted o))) i
 
   -- the plan that is listed first is the one that `solve` writes
   pub record Same : Type 0 where
@@ -80,7 +83,7 @@ module _ (t : List ℤ) (ask : Ask) (old new : List ℕ) (r : Listed) (plan show
     pub written : shown ≡ plan_with c.atoms atoms plan
     pub row : take 256 new ≡ row_of c.atoms atoms
 
-  answered : (m : Counts) → s ≡ solved.Answer m → (x : Result) → o.result ≡ x → (1 ≤ listed_of r) × Same
+  answered : (m : Counts) → s ≡ Ok (solved.Answer m) → (x : defined.Result) → o.result ≡ x → (1 ≤ listed_of r) × Same
   answered m h (answer X) i =
       let w = first_plan (base_by ask.cycles (program c) c.atoms) jump ask.limit k o searched.jumping q lists X i in
       let n : length q.plans ≡ suc (length w.0) = ap length w.1 in
@@ -88,24 +91,24 @@ module _ (t : List ℤ) (ask : Ask) (old new : List ℕ) (r : Listed) (plan show
         omega arith,
         record {
           atoms = X;
-          written = searched.plan ∙ ap (λ (y : Result). plan_after c.atoms y plan) i;
+          written = searched.plan ∙ ap (λ (y : defined.Result). plan_after c.atoms y plan) i;
           row = ap (take 256) (listed.rows ∙ ap (λ (l : List Atoms). rows_with c.atoms l old) w.1) ∙ row_first c.atoms (ranges t c a.holds).few_atoms X w.0 old;
         },
       )
   answered m h no_answer i = absurd (let u = ap kind_of (sym h ∙ told no_answer i) in omega arith)
   answered m h limit i = absurd (let u = ap kind_of (sym h ∙ told limit i) in omega arith)
 
-  pub first_row : (m : Counts) → s ≡ solved.Answer m → (1 ≤ listed_of r) × Same
+  pub first_row : (m : Counts) → s ≡ Ok (solved.Answer m) → (1 ≤ listed_of r) × Same
   first_row m h = answered m h o.result refl
 
   -- nothing is listed
   nothing : q.plans ≡ [] → 1 ≤ listed_of r → ⊥
   nothing e l = let u : length q.plans ≡ 0 = ap length e in let v = number in omega arith
 
-  listed_by_lem : 1 ≤ listed_of r → (x : Result) → o.result ≡ x → (m : Counts) × (s ≡ solved.Answer m)
+  listed_by_lem : 1 ≤ listed_of r → (x : defined.Result) → o.result ≡ x → (m : Counts) × (s ≡ Ok (solved.Answer m))
   listed_by_lem l (answer X) i = (counted o, told (answer X) i)
   listed_by_lem l no_answer i = absurd (nothing (no_plan_lem (base_by ask.cycles (program c) c.atoms) jump ask.limit k o searched.jumping q lists no_answer i (λ X e. let z : ◌≡◌ {A = ℕ} 0 1 = cc in omega arith)) l)
   listed_by_lem l limit i = absurd (nothing (no_plan_lem (base_by ask.cycles (program c) c.atoms) jump ask.limit k o searched.jumping q lists limit i (λ X e. let z : ◌≡◌ {A = ℕ} 0 1 = cc in omega arith)) l)
 
-  pub row_answered : 1 ≤ listed_of r → (m : Counts) × (s ≡ solved.Answer m)
+  pub row_answered : 1 ≤ listed_of r → (m : Counts) × (s ≡ Ok (solved.Answer m))
   row_answered l = listed_by_lem l o.result refl

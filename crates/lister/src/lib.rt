@@ -10,10 +10,9 @@ ghost use Rattle.lister.specs.Telling.{result_of};
 use foundation::Candidates;
 use heads::Lists;
 use judging::Buffer;
-use layout::Table;
+use layout::{Accepted, Table};
 use listing::{Kind, Told};
-use results::{Ask, Counts, Listed};
-use table::Fault;
+use results::{Ask, Counts, Listed, Refusal};
 
 // All plans: complete, full or limit with the number listed and the counts, or a refusal. Only the listed rows are written, each whole. The memory of the
 // search is lent: nothing is said of what it holds before or after, and nothing depends on it.
@@ -23,24 +22,17 @@ pub fn list_with(
     rows: &mut [u8],
     lists: &mut Lists,
     candidates: &mut Candidates,
-) -> Listed
+) -> Result<Listed, Refusal>
     ensures { Listing words.now ask rows.old rows.new result }
 {
-    let room = rows.len();
-    let judged = judging::judge_in(words, ask.cycles, Buffer::Rows(room), lists);
-    let fault = judged.fault;
-    match fault {
-        Fault::Refused(f) => Listed::Refused(f),
-        Fault::Nothing => {
-            let tb = judged.table;
-            let told = listing::list_by(words, tb, ask.cycles, lists, ask.limit, rows, candidates);
-            result(told)
-        }
-    }
+    let places = judging::judge_in(words, ask.cycles, Buffer::Rows(rows.len()), lists)?;
+    let t = Accepted { words, places };
+    let told = listing::list_by(&t, ask.cycles, lists, ask.limit, rows, candidates);
+    Ok(result(told))
 }
 
 // The same with memory of its own.
-pub fn list(words: &[i32], ask: Ask, rows: &mut [u8]) -> Listed
+pub fn list(words: &[i32], ask: Ask, rows: &mut [u8]) -> Result<Listed, Refusal>
     ensures { Listing words.now ask rows.old rows.new result }
 {
     let mut lists = [0u16; heads::SIZE];
@@ -58,8 +50,7 @@ fn result(told: Told) -> Listed
         skips: told.skips,
         passes: told.passes,
     };
-    let kind = told.kind;
-    match kind {
+    match told.kind {
         Kind::Complete => Listed::Complete(number, counts),
         Kind::Full => Listed::Full(number, counts),
         Kind::Limit => Listed::Limit(number, counts),

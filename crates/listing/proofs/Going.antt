@@ -1,17 +1,19 @@
 -- A plan is listed, and the listing ends or goes on, as the code goes: back to the present level, all present levels being the reason. Assumes nothing.
 use Prim.Native.Nat.{ℕ, zero, suc, ◌+◌, ◌-◌, ◌*◌, ◌≤◌, ◌<◌}
 use native.Mathlib.Omega.{arith}
-use mathlib.Core.Path.{◌≡◌, sym, ◌∙◌, ap}
+use mathlib.Core.Path.{◌≡◌, refl, sym, ◌∙◌, ap, subst}
 use mathlib.Core.Bool.{Bool}
 use mathlib.Core.List.{List, [], ◌∷◌, ◌++◌}
-use lib.ListN.{length, length-append}
+use lib.ListN.{length, set, length-append}
 use Rattle.meaning.specs.Cond.{if_eq}
 use Rattle.meaning.specs.Aggregates.{Atoms}
 use Rattle.meaning.specs.Program.{Program}
-use Rattle.levels.specs.Levels.{up_to, without, highest}
-use Rattle.levels.specs.View.{rows}
+use Rattle.levels.specs.Levels.{Levels, up_to, without, highest}
+use Rattle.levels.specs.View.{row, rows}
+use Rattle.levels.proofs.Laws.{rows_set}
 use Rattle.interpretation.specs.State.{Interpretation, jumped, true_atoms}
-use Rattle.interpretation.specs.View.{view}
+use Rattle.interpretation.specs.View.{view, choices}
+use Rattle.interpretation.specs.declared.Interpretation as code
 use Rattle.outcome.specs.declared.Start.{Start}
 use Rattle.outcome.specs.declared.Halt.{Halt}
 use Rattle.outcome.specs.declared.Ending.{Ending}
@@ -22,9 +24,10 @@ use Rattle.search.specs.Listing.{Jumped, go_on, jumped_over, stopped, resumed, o
 use Rattle.search.proofs.Fuel.{meas}
 use Rattle.search.proofs.ListRuns.{list_ends_on, list_less}
 use Rattle.search.proofs.Parts.{highest_up_to}
-use Rattle.jumping.specs.Jumping.{state_of, result_of, end_of, Searched}
+use Rattle.jumping.specs.Jumping.{Ordered, Ready, state_of, result_of, end_of, start_at, Searched}
+use Rattle.jumping.proofs.Ordered.{ordered_jump, choice_in, level_in}
 use Rattle.turns.specs.declared.Back.TheVariants.{End, Level}
-use Rattle.turns.specs.Turns.{back_to, back_of}
+use Rattle.turns.specs.Turns.{back_to, back_of, ChosenIn}
 use Rattle.listing.specs.declared.Kind.TheVariants.{Complete}
 use Rattle.listing.specs.declared.Told.{Told}
 use Rattle.listing.specs.Rows.{row_put, rows_with, kind_by, ListsBy}
@@ -32,6 +35,15 @@ use Rattle.listing.proofs.Written.{listed_more}
 use Rattle.listing.proofs.Listing.{listing, led_lists, led_falls, lists_plan, resumed_end, Resumes, resumed_go, Done, lists_by}
 
 -- ---- where the code goes back to
+
+-- back to level m, whose choice atom is a, from the present state
+pub record Leaves (i : code.Interpretation) (m a : ℕ) : Type 0 where
+  pub level : m ≡ i.depth
+  pub deeper : 1 ≤ i.depth
+  pub atom : a ≡ (view i).choice i.depth
+  pub within : i.depth ≤ 256
+  pub above : 1 ≤ a
+  pub below : a ≤ 256
 
 module _ (choice : ℕ → ℕ) where
   to_end : (k m s : ℕ) → m ≡ k → back_to choice k m ≡ End s → k ≡ 0
@@ -50,6 +62,38 @@ module _ (choice : ℕ → ℕ) where
 
   pub back_level : (k l a s : ℕ) → back_of choice (up_to k) k ≡ Level l a s → (l ≡ k) × (1 ≤ k) × (a ≡ choice k)
   back_level k l a s e = to_level k (highest (up_to k) k) l a s (highest_up_to jump k) e
+
+-- ---- the level and the choice atom that the code goes back to lie within their arrays
+
+module _ (n lim : ℕ) (few : n ≤ 256) (h : Halt) (R : Ready n lim (start_at h.found)) where
+  abbrev i : code.Interpretation
+  i = h.found.it
+
+  pub deep : i.depth ≤ 256
+  deep = let l = level_in n (view i) R.ordered in omega arith
+
+  pub chosen_in : ChosenIn (choices i.chosen i.depth) i.depth
+  chosen_in l a b = let t = choice_in n (view i) R.ordered l a b in let u = t.2 in omega arith
+
+  pub leaves : (m a s : ℕ) → back_of (view i).choice (up_to i.depth) i.depth ≡ Level m a s → Leaves i m a
+  leaves m a s e =
+      let t = back_level (view i).choice i.depth m a s e in
+      let k = t.1 in
+      let f = t.2 in
+      let c = choice_in n (view i) R.ordered i.depth k (omega arith) in
+      let c1 = c.1 in
+      let c2 = c.2 in
+      record { level = t.0; deeper = k; atom = f; within = deep; above = omega arith; below = omega arith }
+
+  -- from there the search may go on
+  pub ready_on : (m a : ℕ) (L : Leaves i m a) (it : code.Interpretation) → view it ≡ jumped (m - 1) (view i)
+      → Ready n lim (record { it = it; choices = h.found.choices; skips = h.found.skips; passes = h.found.passes })
+  ready_on m a L it e =
+      let l = L.level in
+      let k = L.deeper in
+      let p = R.paid in
+      let d : it.depth ≡ i.depth - 1 = ap (λ (s : Interpretation). s.level) e ∙ ap (λ (j : ℕ). j - 1) l in
+      record { ordered = subst (Ordered n) (sym e) (ordered_jump n (view i) R.ordered (m - 1) (omega arith)); paid = omega arith; few = R.few }
 
 -- ---- a plan is listed
 
@@ -136,3 +180,37 @@ module _ (cycles : Bool) (Q : Program) (n lim room : ℕ) (old new new' : List �
         let a = list_less P jump lim room (listing S.last D.plans D.past) (listing (state_of from' reasons' t.next.skipped) plans past) turn_on in
         let b = led_falls P lim room D.plans D.past (state_of from reasons D.skipped) S.last S.led in
         omega (arith, a, b)
+
+  -- as the code's arrays say it
+  module _ (m a : ℕ) (L : Leaves h.found.it m a) (rs : List (List ℕ)) (long : length rs ≡ 256) (same : rs ≡ h.rows) (C : List ℕ) (rest : row C ≡ without m (up_to h.found.it.depth))
+      (it : code.Interpretation) (jumps : view it ≡ jumped (m - 1) (view h.found.it)) where
+    abbrev from_on : Start
+    from_on = record { it = it; choices = h.found.choices; skips = h.found.skips; passes = h.found.passes }
+
+    abbrev below : ℕ
+    below = h.found.it.depth - 1
+
+    deep_is : h.found.it.depth ≡ suc below
+    deep_is = let k = L.deeper in omega arith
+
+    stepped_on : view it ≡ jumped below (view h.found.it)
+    stepped_on = jumps ∙ ap (λ (k : ℕ). jumped (k - 1) (view h.found.it)) L.level
+
+    abbrev put_row : ℕ → Levels → (ℕ → Levels) → ℕ → Levels
+    put_row p D r = λ q. if_eq q p D (r q)
+
+    rows_on : rows (set rs (a - 1) C) ≡ (λ (q : ℕ). if_eq q ((view h.found.it).choice (suc below)) (without (suc below) (up_to (suc below))) (rows h.rows q))
+    rows_on =
+        let l = L.above in
+        let u = L.below in
+        let x : row C ≡ without (suc below) (up_to (suc below)) = rest ∙ ap (λ (k : ℕ). without k (up_to h.found.it.depth)) (L.level ∙ deep_is) ∙ ap (λ (k : ℕ). without (suc below) (up_to k)) deep_is in
+        rows_set rs a C l (omega arith)
+        ∙ ap (λ (D : Levels). put_row a D (rows rs)) x
+        ∙ ap (λ (p : ℕ). put_row p (without (suc below) (up_to (suc below))) (rows rs)) (L.atom ∙ ap (view h.found.it).choice deep_is)
+        ∙ ap (λ (r : List (List ℕ)). put_row ((view h.found.it).choice (suc below)) (without (suc below) (up_to (suc below))) (rows r)) same
+
+    pub goes_by : Done P lim room old new' from_on (set rs (a - 1) C) (number + 1)
+    goes_by = goes_on_lem below deep_is from_on (set rs (a - 1) C) stepped_on rows_on refl refl refl
+
+    pub falls_by : (lim - h.found.choices) * suc n + it.depth < (lim - from.choices) * suc n + from.it.depth
+    falls_by = falls below deep_is from_on (set rs (a - 1) C) stepped_on rows_on refl refl refl

@@ -19,8 +19,11 @@ use Rattle.interpretation.specs.State.{true_atoms}
 use Rattle.interpretation.specs.View.{view}
 use Rattle.outcome.specs.declared.Start.{Start}
 use Rattle.outcome.specs.declared.Halt.{Halt}
-use Rattle.jumping.specs.Jumping.{state_of, end_of, Led, here, on, Searched}
+use Rattle.outcome.specs.declared.Ending.{Ending}
+use Rattle.outcome.specs.declared.Ending.TheVariants as ending
+use Rattle.jumping.specs.Jumping.{state_of, result_of, end_of, Led, here, on, Searched}
 use Rattle.listing.specs.declared.Kind.{Kind}
+use Rattle.listing.specs.declared.Kind.TheVariants.{Complete, Full, Limit}
 use Rattle.listing.specs.declared.Told.{Told}
 use Rattle.listing.specs.Rows.{rows_with, kind_by, ListsBy}
 
@@ -124,3 +127,18 @@ module _ (P : Problem) (lim room : ℕ) (old new : List ℕ) (from : Start) (rea
     result = g ∙ sym (λ t. record { kind = f t; number = D.count t; choices = h.found.choices; skips = h.found.skips; passes = h.found.passes });
     rows = D.rows;
   }
+
+  -- nothing more was found, the limit is met, or a plan was found for which there is no row
+  pub stops_none : h.found.ending ≡ ending.Nothing → (r : Told) → r ≡ record { kind = Complete; number = number; choices = h.found.choices; skips = h.found.skips; passes = h.found.passes } → ListsBy P lim room old new r
+  stops_none e =
+      stops Complete (ap (λ (x : Ending). kind_by (result_of x plan)) e)
+      (stops_other P lim room D.plans D.past S.last ended S.ends no_answer (ap (λ (x : Ending). result_of x plan) e) refl)
+
+  pub stops_met : h.found.ending ≡ ending.Limit → (r : Told) → r ≡ record { kind = Limit; number = number; choices = h.found.choices; skips = h.found.skips; passes = h.found.passes } → ListsBy P lim room old new r
+  stops_met e =
+      stops Limit (ap (λ (x : Ending). kind_by (result_of x plan)) e) (stops_limit P lim room D.plans D.past S.last ended S.ends (ap (λ (x : Ending). result_of x plan) e))
+
+  pub stops_over : h.found.ending ≡ ending.Answer → room ≤ number → (r : Told) → r ≡ record { kind = Full; number = number; choices = h.found.choices; skips = h.found.skips; passes = h.found.passes } → ListsBy P lim room old new r
+  stops_over e l =
+      stops Full (ap (λ (x : Ending). kind_by (result_of x plan)) e)
+      (stops_full P lim room D.plans D.past S.last ended S.ends plan (ap (λ (x : Ending). result_of x plan) e) (let k = D.count in omega arith))

@@ -5,6 +5,8 @@ use mathlib.Core.List.{List, [], ◌∷◌, ◌++◌, append_assoc, append-nil}
 use Prim.Native.Nat.{ℕ, zero, suc, ◌+◌, ◌*◌, ◌/◌, ◌<◌, ◌≤◌}
 use native.Mathlib.Numerals.{add-one}
 use native.Mathlib.Omega.{arith}
+use lib.Dec.{eqb, ltb}
+use Rattle.std.proofs.lemmas.Bool.{eqb-true, eqb-false, le-ltb}
 use lib.ListN.{length, get_or, set, take, drop, length-append, length-drop, take-append-drop}
 use lib.Seq.{drop-cons, append_snoc, set_at, length-take-le, take_at, drop-append-add, drop-drop}
 use mathlib.Core.Logic.{◌≢◌}
@@ -15,7 +17,7 @@ use Rattle.interpretation.specs.View.{cell_by, blank, cells, valued}
 use Rattle.interpretation.specs.declared.Record.{Record}
 use Rattle.meaning.specs.Cond.{if_lt}
 use Rattle.interpretation.proofs.Laws.{cells_suc}
-use Rattle.listing.specs.Rows.{row_byte, row_from, row_of, row_put, rows_of, rows_with}
+use Rattle.listing.specs.Rows.{bit_by, row_byte, row_from, row_of, row_put, rows_of, rows_with}
 
 pub row_length : (X : Atoms) (i k : ℕ) → length (row_from X i k) ≡ k
 unfolding row_from
@@ -62,14 +64,25 @@ truth_byte (suc zero) h = absurd (h refl)
 truth_byte (suc (suc v)) h = refl
 
 module _ (n : ℕ) (vs : List ℕ) (i : ℕ) where
-  pub truth_one : i < n → get_or vs i 0 ≡ 1 → true_atoms n (valued vs) (suc i) ≡ true
+  truth_one : i < n → get_or vs i 0 ≡ 1 → true_atoms n (valued vs) (suc i) ≡ true
   truth_one h e = if_lt_yes i n (truth_of (valued vs (suc i))) false h ∙ ap truth_of (cells_suc vs [] i ∙ ap (λ (v : ℕ). cell_by v 0) e)
 
-  pub truth_other : i < n → get_or vs i 0 ≢ 1 → true_atoms n (valued vs) (suc i) ≡ false
+  truth_other : i < n → get_or vs i 0 ≢ 1 → true_atoms n (valued vs) (suc i) ≡ false
   truth_other h e = if_lt_yes i n (truth_of (valued vs (suc i))) false h ∙ ap truth_of (cells_suc vs [] i) ∙ truth_byte (get_or vs i 0) e
 
-  pub truth_past : n ≤ i → true_atoms n (valued vs) (suc i) ≡ false
+  truth_past : n ≤ i → true_atoms n (valued vs) (suc i) ≡ false
   truth_past h = if_lt_no i n (truth_of (valued vs (suc i))) false h
+
+  truth_by_value : (b : Bool) → eqb (get_or vs i 0) 1 ≡ b → i < n → true_atoms n (valued vs) (suc i) ≡ b
+  truth_by_value true e h = truth_one h (eqb-true _ _ e)
+  truth_by_value false e h = truth_other h (eqb-false _ _ e)
+
+  -- whether the atom is true, as the code asks it
+  pub byte_held : (r : ℕ) (b : Bool) → r ≡ bit_by b → b ≡ eqb (get_or vs i 0) 1 → i < n → r ≡ row_byte (true_atoms n (valued vs)) i
+  byte_held r b e f h = e ∙ ap bit_by (sym (truth_by_value b (sym f) h))
+
+  pub byte_past : (r : ℕ) (b : Bool) → r ≡ bit_by b → b ≡ ltb i n → n ≤ i → r ≡ row_byte (true_atoms n (valued vs)) i
+  byte_past r b e f h = e ∙ ap bit_by (f ∙ le-ltb i n h ∙ sym (truth_past h))
 
 truth_by : (v k l : ℕ) → truth_of (cell_by v k) ≡ truth_of (cell_by v l)
 truth_by zero k l = refl

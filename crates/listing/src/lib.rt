@@ -5,7 +5,6 @@
 ghost use Rattle.std.specs.Prelude.{◌≡◌, ◌+◌, ◌*◌, ◌≤◌, ◌<◌, ◌/◌, length};
 ghost use Rattle.interpretation.specs.State.{unset, true_atoms};
 ghost use Rattle.interpretation.specs.View.{view, valued, choices};
-ghost use Rattle.layout.specs.Layout.{Laid};
 ghost use Rattle.heads.specs.Heads.{Listed, taking};
 ghost use Rattle.levels.specs.Levels.{up_to};
 ghost use Rattle.smaller.specs.Cyclic.{base_by};
@@ -15,7 +14,7 @@ ghost use Rattle.listing.specs.Rows.{row_byte, row_put, ListsBy};
 use foundation::Candidates;
 use heads::Lists;
 use interpretation::Interpretation;
-use layout::Table;
+use layout::Accepted;
 use outcome::{Ending, Found, Start};
 use turns::Back;
 
@@ -45,12 +44,7 @@ fn row_byte(values: &[u8; 256], n: usize, i: usize) -> u8
     requires { i < 256 }
     ensures { result ≡ row_byte (true_atoms n (valued values.now)) i }
 {
-    if i < n {
-        if values[i] == 1 {
-            return 1;
-        }
-    }
-    0
+    u8::from(i < n && values[i] == 1)
 }
 
 // "256-byte rows, rest bytes 0": the row that begins at `at` is written whole; no other byte is.
@@ -58,12 +52,8 @@ fn write_row(values: &[u8; 256], n: usize, rows: &mut [u8], at: usize)
     requires { at + 256 ≤ length rows.old }
     ensures { rows.new ≡ row_put (true_atoms n (valued values.now)) at 256 rows.old }
 {
-    let mut i: usize = 0;
-    while i < ROW {
-        let b = row_byte(values, n, i);
-        let place = at + i;
-        rows[place] = b;
-        i += 1;
+    for i in 0..ROW {
+        rows[at + i] = row_byte(values, n, i);
     }
 }
 
@@ -116,24 +106,23 @@ fn again(found: Found, it: Interpretation) -> Start
 
 // The listing, by the lists of the table's rules: search, write the plan's row, go back, and search on.
 pub fn list_by(
-    t: &[i32],
-    tb: Table,
+    t: &Accepted,
     cycles: bool,
     lists: &Lists,
     limit: u32,
     rows: &mut [u8],
     candidates: &mut Candidates,
 ) -> Told
-    requires { Laid t.now tb × Listed t.now tb lists.now }
-    ensures { ListsBy (base_by cycles (taking t.now lists.now) tb.atoms) limit (length rows.old / 256) rows.old rows.new result }
+    requires { Listed t.now.words.now t.now.places lists.now }
+    ensures { ListsBy (base_by cycles (taking t.now.words.now lists.now) t.now.places.atoms) limit (length rows.old / 256) rows.old rows.new result }
 {
     let room = rows.len() / ROW;
-    let n = tb.atoms;
+    let n = t.places.atoms;
     let mut from = begin();
     let mut reasons = levels::no_rows();
     let mut number: usize = 0;
     loop {
-        let halt = jumping::search_by(t, tb, cycles, lists, limit, from, reasons, candidates);
+        let halt = jumping::search_by(t, cycles, lists, limit, from, reasons, candidates);
         let found = halt.found;
         let ending = found.ending;
         match ending {

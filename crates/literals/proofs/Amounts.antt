@@ -1,16 +1,16 @@
 -- The running numbers over an aggregate's elements, one element at a time, and that they give its value. Assumes nothing.
-use mathlib.Core.Path.{◌≡◌, refl, sym, ◌∙◌, ap, fun_ext}
+use mathlib.Core.Path.{◌≡◌, refl, sym, ◌∙◌, ap, ap₂, fun_ext}
 use mathlib.Core.Bool.{Bool, true, false, not, ◌&&◌, ◌||◌}
 use mathlib.Core.Option.{Option, none, some}
 use mathlib.Core.List.{List, [], ◌∷◌}
-use Prim.Native.Nat.{ℕ, suc, ◌+◌, ◌-◌, ◌*◌, ◌≤◌, ◌<◌, max}
+use Prim.Native.Nat.{ℕ, suc, ◌+◌, ◌≤◌, max}
 use native.Mathlib.Numerals.{add-one}
 use native.Mathlib.Omega.{arith}
 use lib.Dec.{ltb, leb, leb-zero, leb-suc-zero, leb-suc-suc}
-use lib.IntN.{ℤ, negsuc}
-use lib.ListN.{length, drop}
+use lib.IntN.{ℤ, pos, negsuc}
+use lib.ListN.{length, get_or}
 use Rattle.meaning.specs.Lists.{all, any, cons_if}
-use Rattle.layout.specs.Layout.{pairs}
+use Rattle.layout.specs.Layout.{nat_at, function_by, comparison_by, pairs, pairs_at, aggregate_at}
 use Rattle.meaning.specs.Aggregates.{values, total, join, least_of, most_of, value_of, compares, compared}
 use Rattle.meaning.specs.Program.{Element}
 use Rattle.meaning.specs.declared.Function.{Function}
@@ -26,7 +26,6 @@ use Rattle.valuing.specs.Values.{lowest_of, highest_of, possibly, asks_each, bet
 use Rattle.valuing.proofs.Compared.{of_each}
 use Rattle.literals.specs.declared.aggregates.Totals.{Totals}
 use Rattle.literals.specs.Elements.{Marks, limit_of, passes_by, weight_of, sum_of, added_by, totals_of, totals_value, marked_by, marks_of, marks_value}
-use Rattle.literals.proofs.Pairs.{pair_at, pairs_down}
 
 -- ---- one element more
 
@@ -192,19 +191,18 @@ module _ (a : ℕ → Cell) (z : ℤ) (es : List Element) where
   found_right Max Less = by_each Less Max refl
   found_right Max Greater = by_some Greater Max (most_some z)
 
--- ---- the pairs' words, from the last to the first
+-- the same of the aggregate that begins at i
+pub found_at : (X : ℕ → Cell) (t : List ℤ) (i : ℕ) (f : Function) (c : Comparison) (k : ℕ) (w : List ℤ) → f ≡ function_by (nat_at t i) → c ≡ comparison_by (nat_at t (i + 1))
+    → k ≡ limit_of (get_or t (i + 2) (pos 0)) → w ≡ pairs_at t i → found_by f c k X (pairs w) ≡ aggregate_value X (aggregate_at t i)
+unfolding aggregate_at
+found_at X t i f c k w ef ec ek ew =
+    ap (λ (g : Function). found_by g c k X (pairs w)) ef ∙ ap (λ (x : Comparison). found_by (function_by (nat_at t i)) x k X (pairs w)) ec
+    ∙ ap₂ (λ (n : ℕ) (m : List ℤ). found_by (function_by (nat_at t i)) (comparison_by (nat_at t (i + 1))) n X (pairs m)) ek ew
+    ∙ sym (found_right X (get_or t (i + 2) (pos 0)) (pairs (pairs_at t i)) (function_by (nat_at t i)) (comparison_by (nat_at t (i + 1))))
 
-module _ (w : List ℤ) (n : ℕ) (a : ℕ → Cell) (h : 0 < n) (k : 2 * n ≤ length w) where
-  pub totals_down : (count : Bool) (v : Value) (x : ℕ) (t : Totals) → v ≡ cell_value (a (pair_at w n).atom) → x ≡ weight_of count (pair_at w n).value → t ≡ totals_of count a (pairs (drop (2 * n) w))
-      → added_by v x t ≡ totals_of count a (pairs (drop (2 * (n - 1)) w))
-  totals_down count v x t ev ex et =
-      ap (λ (u : Value). added_by u x t) ev ∙ ap (λ (y : ℕ). added_by (cell_value (a (pair_at w n).atom)) y t) ex
-      ∙ ap (added_by (cell_value (a (pair_at w n).atom)) (weight_of count (pair_at w n).value)) et
-      ∙ sym (ap (totals_of count a) (pairs_down w n h k) ∙ totals_more count a (pair_at w n) (pairs (drop (2 * n) w)))
-
-  pub marks_down : (c : Comparison) (b : ℕ) (v : Value) (ok : Bool) (m : Marks) → v ≡ cell_value (a (pair_at w n).atom) → ok ≡ passes_by c b (pair_at w n).value → m ≡ marks_of c b a (pairs (drop (2 * n) w))
-      → marked_by v ok m ≡ marks_of c b a (pairs (drop (2 * (n - 1)) w))
-  marks_down c b v ok m ev eo em =
-      ap (λ (u : Value). marked_by u ok m) ev ∙ ap (λ (o : Bool). marked_by (cell_value (a (pair_at w n).atom)) o m) eo
-      ∙ ap (marked_by (cell_value (a (pair_at w n).atom)) (passes_by c b (pair_at w n).value)) em
-      ∙ sym (ap (marks_of c b a) (pairs_down w n h k) ∙ marks_more c b a (pair_at w n) (pairs (drop (2 * n) w)))
+-- an element more of those walked, or of the rest
+pub added_on : (v : Value) (x : ℕ) (t u : Totals)
+    → ((added_by v x t).low + u.low ≡ t.low + (added_by v x u).low) × ((added_by v x t).high + u.high ≡ t.high + (added_by v x u).high)
+added_on True x t u = (omega arith, omega arith)
+added_on False x t u = (omega arith, omega arith)
+added_on Undefined x t u = (omega arith, omega arith)

@@ -1,13 +1,14 @@
 -- The reason of an aggregate that lies in the table: what the code finds is the union over the elements that settle it. Assumes nothing.
-use mathlib.Core.Path.{◌≡◌, refl, sym}
+use mathlib.Core.Path.{◌≡◌, refl, sym, ap₂}
 use mathlib.Core.Bool.{Bool, true, false, not, ◌&&◌}
 use mathlib.Core.List.Memᴰ
 use mathlib.Core.List.{List, [], ◌∷◌}
-use Prim.Native.Nat.{ℕ, ◌<◌}
+use Prim.Native.Nat.{ℕ, ◌+◌, ◌<◌}
 use native.Mathlib.Omega.{arith}
 use mathlib.Core.Path.{ap, ◌∙◌}
 use lib.Dec.{eqb}
-use lib.IntN.{ℤ}
+use lib.IntN.{ℤ, pos}
+use lib.ListN.{get_or}
 use Rattle.meaning.specs.Lists.{Is, ◌∈◌, any}
 use Rattle.meaning.specs.Program.{Element}
 use Rattle.meaning.specs.declared.Comparison.{Comparison}
@@ -17,7 +18,7 @@ use Rattle.meaning.specs.declared.Function.TheVariants.{Count, Sum, Min, Max}
 use Rattle.meaning.proofs.Tools.{contra, any_e, eq}
 use Rattle.levels.specs.Levels.{Levels, union}
 use Rattle.interpretation.specs.State.{Cell}
-use Rattle.layout.specs.Layout.{Rising}
+use Rattle.layout.specs.Layout.{Rising, AggregateLies, nat_at, function_by, comparison_by, pairs, pairs_at, aggregate_at}
 use Rattle.valuing.specs.Values.{asks_each}
 use Rattle.valuing.specs.Settling.{settling_of}
 use Rattle.valuing.specs.Reasons.{reasons_at}
@@ -53,3 +54,13 @@ blamed_right a r B Count c z es D = sym (adds_law a r B (record { function = Cou
 blamed_right a r B Sum c z es D = sym (adds_law a r B (record { function = Sum; comparison = c; threshold = z; elements = es }) false (λ v. refl) refl D)
 blamed_right a r B Min c z es D = sym (single_law a Min refl c z es D r B)
 blamed_right a r B Max c z es D = sym (single_law a Max refl c z es D r B)
+
+-- the same of the aggregate that begins at i
+pub blamed_at : (X : ℕ → Cell) (R : ℕ → Levels) (M : Levels) (t : List ℤ) (i : ℕ) (f : Function) (c : Comparison) (k : ℕ) (w : List ℤ) → AggregateLies 256 t i → f ≡ function_by (nat_at t i)
+    → c ≡ comparison_by (nat_at t (i + 1)) → k ≡ limit_of (get_or t (i + 2) (pos 0)) → w ≡ pairs_at t i
+    → blamed_by f c k X R (pairs w) M ≡ union (reasons_at R (settling_of X (aggregate_at t i))) M
+unfolding aggregate_at
+blamed_at X R M t i f c k w L ef ec ek ew =
+    ap (λ (g : Function). blamed_by g c k X R (pairs w) M) ef ∙ ap (λ (x : Comparison). blamed_by (function_by (nat_at t i)) x k X R (pairs w) M) ec
+    ∙ ap₂ (λ (n : ℕ) (m : List ℤ). blamed_by (function_by (nat_at t i)) (comparison_by (nat_at t (i + 1))) n X R (pairs m) M) ek ew
+    ∙ blamed_right X R M (function_by (nat_at t i)) (comparison_by (nat_at t (i + 1))) (get_or t (i + 2) (pos 0)) (pairs (pairs_at t i)) (rising_differ 0 (pairs (pairs_at t i)) L.ascend)

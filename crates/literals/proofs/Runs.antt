@@ -19,13 +19,10 @@ use Rattle.valuing.specs.Walk.{adds, weight, add_if, drop_if, worth, whole, alik
 use Rattle.valuing.proofs.Walk.{append_nil, atoms_snoc, walk_law}
 use Rattle.literals.specs.Elements.{limit_of, weight_of, part_of}
 use Rattle.literals.specs.Settled.{join_if, of_sign, alike_by, whole_of, bound_by, Told, pick_told, run_of, or_else, adds_of}
-use Rattle.literals.proofs.Together.{union_assoc, union_none, union_swap}
+use Rattle.literals.proofs.Together.{union_assoc, union_none, union_turn}
 use Rattle.literals.proofs.Amounts.{passes_limit}
 
 -- ---- unions
-
-pub union_turn : (X Y B : Levels) → union X (union Y B) ≡ union Y (union X B)
-union_turn X Y B = sym (union_assoc X Y B) ∙ ap (λ (R : Levels). union R B) (union_swap X Y) ∙ union_assoc Y X B
 
 or_both : (t f b : Bool) → ((t || f) || b) ≡ ((t || b) || (f || b))
 or_both true f b = refl

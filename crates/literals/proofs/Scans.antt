@@ -18,8 +18,7 @@ use Rattle.interpretation.specs.declared.Value.{Value}
 use Rattle.interpretation.specs.declared.Value.TheVariants.{True, False, Undefined}
 use Rattle.valuing.specs.Values.{says_true, says_false, says_undefined, Lit, value}
 use Rattle.steps.specs.Steps.{first_of}
-use Rattle.literals.specs.declared.First.{First}
-use Rattle.literals.specs.declared.First.TheVariants.{At, Nothing}
+use Rattle.std.specs.Prelude.{Option, Some, None}
 use Rattle.literals.specs.Scan.{first_from, first_false}
 
 abbrev pub is_true : (ℕ → Cell) → Lit → Bool
@@ -42,17 +41,17 @@ pub record IsNone (a : ℕ → Cell) (s : List Lit) : Type 0 where
   pub none_false : any (is_false a) s ≡ false
   pub no_first : first_of (is_false a) s ≡ none
 
-abbrev pub Says : Lit → (ℕ → Cell) → List Lit → First → Type 0
-Says d a s (At k) = IsFirst d a s k
-Says d a s Nothing = IsNone a s
+abbrev pub Says : Lit → (ℕ → Cell) → List Lit → Option ℕ → Type 0
+Says d a s (Some k) = IsFirst d a s k
+Says d a s None = IsNone a s
 
 -- ---- one literal at a time
 
-pub first_none : (a : ℕ → Cell) (i : ℕ) → first_from a i [] ≡ Nothing
+pub first_none : (a : ℕ → Cell) (i : ℕ) → first_from a i [] ≡ None
 unfolding first_from
 first_none a i = refl
 
-pub first_at : (a : ℕ → Cell) (i : ℕ) (x : Lit) (s : List Lit) → is_false a x ≡ true → first_from a i (x ∷ s) ≡ At i
+pub first_at : (a : ℕ → Cell) (i : ℕ) (x : Lit) (s : List Lit) → is_false a x ≡ true → first_from a i (x ∷ s) ≡ Some i
 unfolding first_from
 first_at a i x s e = rw (e, first_from)
 
@@ -70,7 +69,7 @@ says_false_lem Undefined h = absurd (clash h refl)
 module _ (d : Lit) (a : ℕ → Cell) where
   -- what is found where the list's first literal has index i
   abbrev Found : List Lit → ℕ → Type 0
-  Found s i = ((k : ℕ) × (first_from a i s ≡ At (i + k)) × IsFirst d a s k) ⊎ ((first_from a i s ≡ Nothing) × IsNone a s)
+  Found s i = ((k : ℕ) × (first_from a i s ≡ Some (i + k)) × IsFirst d a s k) ⊎ ((first_from a i s ≡ None) × IsNone a s)
 
   found : (s : List Lit) (i : ℕ) → Found s i
   found [] i = inr (first_none a i, record { none_false = refl; no_first = refl })
@@ -79,10 +78,10 @@ module _ (d : Lit) (a : ℕ → Cell) where
       at : Is (is_false a x) ⊎ (is_false a x ≡ false) → Found s (suc i) → Found (x ∷ s) i
       at (inl e) f =
           let z : i ≡ i + 0 = omega arith in
-          inl (0, first_at a i x s e ∙ ap At z, record { within = omega arith; first = ap (λ (b : Bool). cond b (some x) (first_of (is_false a) s)) e; it_is = says_false_lem (value a x) e })
+          inl (0, first_at a i x s e ∙ ap Some z, record { within = omega arith; first = ap (λ (b : Bool). cond b (some x) (first_of (is_false a) s)) e; it_is = says_false_lem (value a x) e })
       at (inr e) (inl (k, g, r)) =
           let z : suc i + k ≡ i + suc k = omega arith in
-          inl (suc k, first_later a i x s e ∙ g ∙ ap At z, record { within = let h = r.within in omega arith; first = ap (λ (b : Bool). cond b (some x) (first_of (is_false a) s)) e ∙ r.first; it_is = r.it_is })
+          inl (suc k, first_later a i x s e ∙ g ∙ ap Some z, record { within = let h = r.within in omega arith; first = ap (λ (b : Bool). cond b (some x) (first_of (is_false a) s)) e ∙ r.first; it_is = r.it_is })
       at (inr e) (inr (g, r)) =
           inr (
             first_later a i x s e ∙ g,
@@ -96,12 +95,12 @@ module _ (d : Lit) (a : ℕ → Cell) where
   first_says s = at (found s 0)
     where
       at : Found s 0 → Says d a s (first_false a s)
-      at (inl (k, g, r)) = let z : 0 + k ≡ k = omega arith in subst (Says d a s) (sym (g ∙ ap At z)) r
+      at (inl (k, g, r)) = let z : 0 + k ≡ k = omega arith in subst (Says d a s) (sym (g ∙ ap Some z)) r
       at (inr (g, r)) = subst (Says d a s) (sym g) r
 
   -- ---- each answer by itself
-  pub says_at : (s : List Lit) (k : ℕ) → first_false a s ≡ At k → IsFirst d a s k
+  pub says_at : (s : List Lit) (k : ℕ) → first_false a s ≡ Some k → IsFirst d a s k
   says_at s k e = subst (Says d a s) e (first_says s)
 
-  pub says_nothing : (s : List Lit) → first_false a s ≡ Nothing → IsNone a s
+  pub says_nothing : (s : List Lit) → first_false a s ≡ None → IsNone a s
   says_nothing s e = subst (Says d a s) e (first_says s)

@@ -47,6 +47,9 @@ or_swap false false = refl
 pub union_swap : (A B : Levels) → union A B ≡ union B A
 union_swap A B = fun_ext (λ l. or_swap (A l) (B l))
 
+pub union_turn : (X Y B : Levels) → union X (union Y B) ≡ union Y (union X B)
+union_turn X Y B = sym (union_assoc X Y B) ∙ ap (λ (R : Levels). union R B) (union_swap X Y) ∙ union_assoc Y X B
+
 pub any_append : (f : Lit → Bool) (s t : List Lit) → any f (s ++ t) ≡ any f s || any f t
 any_append f [] t = refl
 any_append f (x ∷ s) t = ap (λ (b : Bool). f x || b) (any_append f s t) ∙ sym (or_assoc (f x) (any f s) (any f t))

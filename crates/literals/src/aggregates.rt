@@ -1,13 +1,11 @@
 // The value of an aggregate, from its pairs of value and atom in one walk. Meaning: crate `valuing`'s `aggregate_value`; how the walk finds it:
 // `specs/Elements.antt`.
 ghost use Rattle.std.specs.Prelude.{◌≡◌, true, false, ◌≤◌, ◌<◌, nat_abs, pos, length, get_or};
-ghost use Rattle.std.specs.Int.Signed.{non_neg};
 ghost use Rattle.interpretation.specs.View.{cell_by, valued, cell_value};
 ghost use Rattle.layout.specs.Layout.{AggregateLies, aggregate_at, pairs};
 ghost use Rattle.valuing.specs.Values.{between, decide, aggregate_value};
 ghost use Rattle.literals.specs.Elements.{limit_of, passes_by, weight_of, part_of, added_by, totals_of, totals_value, marks_of, marks_value, Paired};
 
-use crate::byte_at;
 use interpretation::Value;
 use meaning::{Comparison, Function};
 
@@ -18,24 +16,12 @@ pub struct Totals {
     pub high: usize,
 }
 
-// Whether the word at index k is no negation.
-pub fn plain(l: &[i32], k: usize) -> bool
-    requires { k < length l.now }
-    ensures { result ≡ non_neg (get_or l.now k (pos 0)) }
-{
-    !words::below(l[k])
-}
-
 // The threshold at index i plus 1; 0 for -1.
 pub fn limit(t: &[i32], i: usize) -> usize
     requires { (i < length t.now) × (nat_abs (get_or t.now i (pos 0)) ≤ 4194304) }
     ensures { result ≡ limit_of (get_or t.now i (pos 0)) }
 {
-    if plain(t, i) {
-        let n = words::atom(t, i);
-        return n + 1;
-    }
-    0
+    if t[i] < 0 { 0 } else { words::size(t[i]) + 1 }
 }
 
 // One value against a threshold that is k - 1.
@@ -43,12 +29,7 @@ pub fn passes(c: Comparison, k: usize, v: usize) -> bool
     ensures { result ≡ passes_by c k v }
 {
     match c {
-        Comparison::Less => {
-            if k <= v {
-                return false;
-            }
-            1 < k - v
-        }
+        Comparison::Less => 1 < k.saturating_sub(v),
         Comparison::Greater => k <= v,
     }
 }
@@ -56,28 +37,23 @@ pub fn passes(c: Comparison, k: usize, v: usize) -> bool
 pub fn between(low: bool, high: bool) -> Value
     ensures { result ≡ between low high }
 {
-    if low {
-        if high {
-            return Value::True;
-        }
-        return Value::Undefined;
+    match (low, high) {
+        (true, true) => Value::True,
+        (false, false) => Value::False,
+        _ => Value::Undefined,
     }
-    if high {
-        return Value::Undefined;
-    }
-    Value::False
 }
 
 pub fn decide(holds: bool, fails: bool) -> Value
     ensures { result ≡ decide holds fails }
 {
     if holds {
-        return Value::True;
+        Value::True
+    } else if fails {
+        Value::False
+    } else {
+        Value::Undefined
     }
-    if fails {
-        return Value::False;
-    }
-    Value::Undefined
 }
 
 // What an element adds to a count or to a sum.
@@ -88,6 +64,7 @@ pub fn weight(count: bool, v: usize) -> usize
 }
 
 // x or nothing.
+// Stays: the library's `on.then_some(x).unwrap_or(0)` is no plainer.
 pub fn part(on: bool, x: usize) -> usize
     ensures { result ≡ part_of on x }
 {
@@ -104,19 +81,15 @@ pub fn added(b: u8, x: usize, t: Totals) -> Totals
     Totals { low, high }
 }
 
-// Count or sum over the pairs of value and atom, from the last to the first.
+// Count or sum over the pairs of value and atom.
 pub fn totals_of(w: &[i32], count: bool, values: &[u8; 256]) -> Totals
     requires { Paired w.now }
     ensures { result ≡ totals_of count (valued values.now) (pairs w.now) }
 {
     let mut t = Totals { low: 0, high: 0 };
-    let mut left = w.len() / 2;
-    while 0 < left {
-        left -= 1;
-        let i = 2 * left;
-        let x = weight(count, words::number(w, i));
-        let place = i + 1;
-        t = added(byte_at(w, place, values), x, t);
+    for [value, atom] in w.as_chunks::<2>().0 {
+        let x = weight(count, words::plain(*value));
+        t = added(crate::byte(*atom, values), x, t);
     }
     t
 }
@@ -130,30 +103,26 @@ pub fn totals_value(w: &[i32], count: bool, c: Comparison, k: usize, values: &[u
     between(passes(c, k, t.low), passes(c, k, t.high))
 }
 
-// The value of "some value passes", from the last pair to the first: true as soon as a true element's value passes. The value is looked at
+// The value of "some value passes": true as soon as a true element's value passes. The value is looked at
 // before the atom, because it is the same at each call.
 pub fn some_value(w: &[i32], c: Comparison, k: usize, values: &[u8; 256]) -> Value
     requires { Paired w.now }
     ensures { result ≡ marks_value false (marks_of c k (valued values.now) (pairs w.now)) }
 {
     let mut passable = false;
-    let mut left = w.len() / 2;
-    while 0 < left {
-        left -= 1;
-        let i = 2 * left;
-        if passes(c, k, words::number(w, i)) {
-            let place = i + 1;
-            let b = byte_at(w, place, values);
+    for [value, atom] in w.as_chunks::<2>().0 {
+        if passes(c, k, words::plain(*value)) {
+            let b = crate::byte(*atom, values);
             if b == 1 {
                 return Value::True;
             }
-            passable = (b < 2) | passable;
+            passable |= b < 2;
         }
     }
     between(false, passable)
 }
 
-// The value of "each value passes, and there is one", from the last pair to the first: false as soon as a true element's value fails.
+// The value of "each value passes, and there is one": false as soon as a true element's value fails.
 pub fn each_value(w: &[i32], c: Comparison, k: usize, values: &[u8; 256]) -> Value
     requires { Paired w.now }
     ensures { result ≡ marks_value true (marks_of c k (valued values.now) (pairs w.now)) }
@@ -161,20 +130,16 @@ pub fn each_value(w: &[i32], c: Comparison, k: usize, values: &[u8; 256]) -> Val
     let mut passed = false;
     let mut passable = false;
     let mut failable = false;
-    let mut left = w.len() / 2;
-    while 0 < left {
-        left -= 1;
-        let i = 2 * left;
-        let place = i + 1;
-        let b = byte_at(w, place, values);
-        if passes(c, k, words::number(w, i)) {
-            passed = (b == 1) | passed;
-            passable = (b < 2) | passable;
+    for [value, atom] in w.as_chunks::<2>().0 {
+        let b = crate::byte(*atom, values);
+        if passes(c, k, words::plain(*value)) {
+            passed |= b == 1;
+            passable |= b < 2;
         } else {
             if b == 1 {
                 return Value::False;
             }
-            failable = (b < 2) | failable;
+            failable |= b < 2;
         }
     }
     let holds = passed & (passable & !failable);
@@ -188,19 +153,13 @@ pub fn aggregate_value(t: &[i32], at: usize, values: &[u8; 256]) -> Value
 {
     let w = layout::pairs(t, at);
     let c = layout::comparison(t, at);
-    let place = at + 2;
-    let k = limit(t, place);
-    let f = layout::function(t, at);
-    match f {
-        Function::Count => totals_value(w, true, c, k, values),
-        Function::Sum => totals_value(w, false, c, k, values),
-        Function::Min => match c {
-            Comparison::Less => some_value(w, c, k, values),
-            Comparison::Greater => each_value(w, c, k, values),
-        },
-        Function::Max => match c {
-            Comparison::Less => each_value(w, c, k, values),
-            Comparison::Greater => some_value(w, c, k, values),
-        },
+    let k = limit(t, at + 2);
+    match (layout::function(t, at), c) {
+        (Function::Count, _) => totals_value(w, true, c, k, values),
+        (Function::Sum, _) => totals_value(w, false, c, k, values),
+        (Function::Min, Comparison::Less) => some_value(w, c, k, values),
+        (Function::Min, Comparison::Greater) => each_value(w, c, k, values),
+        (Function::Max, Comparison::Less) => each_value(w, c, k, values),
+        (Function::Max, Comparison::Greater) => some_value(w, c, k, values),
     }
 }

@@ -2,40 +2,23 @@
 // "Reasons and jumps"). Meaning: crate `valuing`; how a list is walked: `specs/Scan.antt`. Nothing here writes.
 #![tactic(auto)]
 
-ghost use Rattle.std.specs.Prelude.{◌≡◌, Bool, not, ◌-◌, ◌≤◌, ◌<◌, T, nat_abs, pos, length, get_or};
+ghost use Rattle.std.specs.Prelude.{◌≡◌, ◌-◌, ◌≤◌, ◌<◌, T, nat_abs, pos, length, get_or};
 ghost use Rattle.std.specs.Int.Signed.{non_neg};
 ghost use Rattle.levels.specs.Levels.{union};
 ghost use Rattle.levels.specs.View.{row, rows};
 ghost use Rattle.interpretation.specs.View.{valued, cell_by, cell_value};
-ghost use Rattle.layout.specs.Layout.{Laid, Members, atoms, literal_of};
-ghost use Rattle.valuing.specs.Values.{says_true, says_false, signed, agg_lit, literal_value};
+ghost use Rattle.layout.specs.Layout.{Members, atoms, literal_of};
+ghost use Rattle.valuing.specs.Values.{says_true, signed, agg_lit, literal_value};
 ghost use Rattle.valuing.specs.Reasons.{reason_at, reason_of, reasons_of};
 ghost use Rattle.literals.specs.Scan.{atom_lits, literal_lits, first_false, atoms_reason};
 
 use interpretation::Value;
-use layout::Table;
+use layout::{Accepted, Table};
 
 mod aggregates;
 mod settling;
 
-// The first false literal of a list, by its index from 0; or none is false.
-#[derive(Clone, Copy)]
-pub enum First {
-    At(usize),
-    Nothing,
-}
-
 // ---- one value
-
-pub fn refutes(v: Value) -> bool
-    ensures { result ≡ says_false v }
-{
-    match v {
-        Value::True => false,
-        Value::False => true,
-        Value::Undefined => false,
-    }
-}
 
 // With the sign false, the opposite.
 pub fn signed(sign: bool, v: Value) -> Value
@@ -53,42 +36,40 @@ pub fn signed(sign: bool, v: Value) -> Value
 
 // ---- one byte of the values: 0 undefined, 1 true, any other false
 
+// That of the atom of a word.
+pub fn byte(w: i32, values: &[u8; 256]) -> u8
+    requires { (1 ≤ nat_abs w) × (nat_abs w ≤ 256) × T (non_neg w) }
+    ensures { cell_by result 0 ≡ valued values.now (nat_abs w) }
+{
+    values[words::plain(w) - 1]
+}
+
 // That of the atom at index i of a list.
 pub fn byte_at(w: &[i32], i: usize, values: &[u8; 256]) -> u8
     requires { (i < length w.now) × (1 ≤ nat_abs (get_or w.now i (pos 0))) × (nat_abs (get_or w.now i (pos 0)) ≤ 256) × T (non_neg (get_or w.now i (pos 0))) }
     ensures { cell_by result 0 ≡ valued values.now (nat_abs (get_or w.now i (pos 0))) }
 {
-    let place = words::number(w, i) - 1;
-    values[place]
+    byte(w[i], values)
 }
 
 // Whether it makes the atom true, with the sign false the opposite.
 pub fn affirms(sign: bool, b: u8) -> bool
     ensures { result ≡ says_true (signed sign (cell_value (cell_by b 0))) }
 {
-    if sign {
-        return b == 1;
-    }
-    1 < b
+    if sign { b == 1 } else { 1 < b }
 }
 
 // ---- lists of atoms
 
-// The first false one of a list of atoms taken as literals, plain or negated.
-pub fn false_atom(l: &[i32], sign: bool, values: &[u8; 256]) -> First
+// The first false one of a list of atoms taken as literals, plain or negated: its index from 0.
+pub fn false_atom(l: &[i32], sign: bool, values: &[u8; 256]) -> Option<usize>
     requires { Members 256 l.now }
     ensures { result ≡ first_false (valued values.now) (atom_lits sign l.now) }
 {
-    let mut i: usize = 0;
-    while i < l.len() {
-        let p = words::atom(l, i);
-        let v = signed(sign, interpretation::value_of(values, p));
-        if refutes(v) {
-            return First::At(i);
-        }
-        i += 1;
-    }
-    First::Nothing
+    l.iter().position(|w| {
+        let v = interpretation::value_of(values, words::size(*w));
+        signed(sign, v) == Value::False
+    })
 }
 
 // The reason of atom p joined to a set.
@@ -120,11 +101,8 @@ pub fn atoms_reason(
     ensures { row result ≡ union (atoms_reason (valued values.now) (rows reasons.now) (atoms l.now)) (row more) }
 {
     let mut acc = more;
-    let mut i = l.len();
-    while 0 < i {
-        i -= 1;
-        let p = words::atom(l, i);
-        let next = atom_reason(p, values, reasons, acc);
+    for w in l {
+        let next = atom_reason(words::size(*w), values, reasons, acc);
         acc = next;
     }
     acc
@@ -142,65 +120,58 @@ pub fn start(tb: Table, l: &[i32], k: usize) -> usize
 }
 
 // The value of the aggregate literal at index k of a list of them.
-pub fn literal_value(t: &[i32], tb: Table, l: &[i32], k: usize, values: &[u8; 256]) -> Value
-    requires { Laid t.now tb × Members tb.aggregates l.now × (k < length l.now) }
-    ensures { result ≡ literal_value (valued values.now) (literal_of t.now (get_or l.now k (pos 0))) }
+pub fn literal_value(t: &Accepted, l: &[i32], k: usize, values: &[u8; 256]) -> Value
+    requires { Members t.now.places.aggregates l.now × (k < length l.now) }
+    ensures { result ≡ literal_value (valued values.now) (literal_of t.now.words.now (get_or l.now k (pos 0))) }
 {
-    let at = start(tb, l, k);
-    let v = aggregates::aggregate_value(t, at, values);
-    signed(aggregates::plain(l, k), v)
+    let at = start(t.places, l, k);
+    let v = aggregates::aggregate_value(t.words, at, values);
+    signed(0 <= l[k], v)
 }
 
-// The first false one of a list of aggregate literals.
-pub fn false_literal(t: &[i32], tb: Table, l: &[i32], values: &[u8; 256]) -> First
-    requires { Laid t.now tb × Members tb.aggregates l.now }
-    ensures { result ≡ first_false (valued values.now) (literal_lits t.now l.now) }
+// The first false one of a list of aggregate literals: its index from 0.
+pub fn false_literal(t: &Accepted, l: &[i32], values: &[u8; 256]) -> Option<usize>
+    requires { Members t.now.places.aggregates l.now }
+    ensures { result ≡ first_false (valued values.now) (literal_lits t.now.words.now l.now) }
 {
-    let mut k: usize = 0;
-    while k < l.len() {
-        let v = literal_value(t, tb, l, k, values);
-        if refutes(v) {
-            return First::At(k);
+    for k in 0..l.len() {
+        if literal_value(t, l, k, values) == Value::False {
+            return Some(k);
         }
-        k += 1;
     }
-    First::Nothing
+    None
 }
 
 // The reason of the aggregate literal at index k of a list, joined to a set: the union over elements that settle it.
 pub fn literal_reason(
-    t: &[i32],
-    tb: Table,
+    t: &Accepted,
     l: &[i32],
     k: usize,
     values: &[u8; 256],
     reasons: &[[u64; 4]; 256],
     more: [u64; 4],
 ) -> [u64; 4]
-    requires { Laid t.now tb × Members tb.aggregates l.now × (k < length l.now) }
-    ensures { row result ≡ union (reason_of (valued values.now) (rows reasons.now) (agg_lit (literal_of t.now (get_or l.now k (pos 0))))) (row more) }
+    requires { Members t.now.places.aggregates l.now × (k < length l.now) }
+    ensures { row result ≡ union (reason_of (valued values.now) (rows reasons.now) (agg_lit (literal_of t.now.words.now (get_or l.now k (pos 0))))) (row more) }
 {
-    let at = start(tb, l, k);
-    settling::aggregate_reason(t, at, values, reasons, more)
+    let at = start(t.places, l, k);
+    settling::aggregate_reason(t.words, at, values, reasons, more)
 }
 
 // The reasons of all aggregate literals of a list joined to a set.
 pub fn literals_reason(
-    t: &[i32],
-    tb: Table,
+    t: &Accepted,
     l: &[i32],
     values: &[u8; 256],
     reasons: &[[u64; 4]; 256],
     more: [u64; 4],
 ) -> [u64; 4]
-    requires { Laid t.now tb × Members tb.aggregates l.now }
-    ensures { row result ≡ union (reasons_of (valued values.now) (rows reasons.now) (literal_lits t.now l.now)) (row more) }
+    requires { Members t.now.places.aggregates l.now }
+    ensures { row result ≡ union (reasons_of (valued values.now) (rows reasons.now) (literal_lits t.now.words.now l.now)) (row more) }
 {
     let mut acc = more;
-    let mut i = l.len();
-    while 0 < i {
-        i -= 1;
-        let next = literal_reason(t, tb, l, i, values, reasons, acc);
+    for k in 0..l.len() {
+        let next = literal_reason(t, l, k, values, reasons, acc);
         acc = next;
     }
     acc

@@ -1,6 +1,6 @@
 // The reason of an aggregate: the union over elements that settle it (02, "Aggregate reasons as in the paper"), taken over the values of the
 // moment. Meaning: crate `valuing`'s `settling_of`; how a walk finds it: `specs/Settled.antt`.
-ghost use Rattle.std.specs.Prelude.{◌≡◌, Bool, true, false, cond, not, ◌≤◌, ◌<◌, length};
+ghost use Rattle.std.specs.Prelude.{◌≡◌, ◌≤◌};
 ghost use Rattle.levels.specs.Levels.{union};
 ghost use Rattle.levels.specs.View.{row, rows};
 ghost use Rattle.interpretation.specs.View.{cell_by, valued};
@@ -10,12 +10,13 @@ ghost use Rattle.valuing.specs.Values.{asks_each};
 ghost use Rattle.valuing.specs.Settling.{settling_of};
 ghost use Rattle.valuing.specs.Reasons.{reasons_at};
 ghost use Rattle.literals.specs.Elements.{Paired};
-ghost use Rattle.literals.specs.Settled.{join_if, of_sign, alike_by, whole_of, bound_by, told_by, run_of, adds_of, passing_of, alone_by, alone_at, single_of};
+ghost use Rattle.literals.specs.Settled.{join_if, alike_by, whole_of, bound_by, told_by, run_of, adds_of, passing_of, alone_by, alone_at, single_of};
 
 use crate::aggregates;
 use meaning::{Comparison, Function};
 
 // A walk over the elements that are true (or false): whether a run of them settles the aggregate; the reasons of that run, or of all of them.
+// Stays: both cases hold a set, and as a Result the reasons of all would be an error that none is.
 #[derive(Clone, Copy)]
 pub struct Run {
     pub settled: bool,
@@ -28,20 +29,10 @@ pub fn joined(on: bool, p: usize, reasons: &[[u64; 4]; 256], more: [u64; 4]) -> 
     ensures { row result ≡ join_if on (rows reasons.now p) (row more) }
 {
     if on {
-        let k = p - 1;
-        return levels::union(reasons[k], more);
+        levels::union(reasons[p - 1], more)
+    } else {
+        more
     }
-    more
-}
-
-// Whether the byte of a value says true (or false).
-pub fn of_sign(sign: bool, b: u8) -> bool
-    ensures { result ≡ of_sign sign (cell_by b 0) }
-{
-    if sign {
-        return b == 1;
-    }
-    1 < b
 }
 
 // ---- count and sum
@@ -50,11 +41,7 @@ pub fn of_sign(sign: bool, b: u8) -> bool
 pub fn alike(c: Comparison, k: usize, low: usize, high: usize) -> bool
     ensures { result ≡ alike_by c k low high }
 {
-    let upper = aggregates::passes(c, k, high);
-    if aggregates::passes(c, k, low) {
-        return upper;
-    }
-    !upper
+    aggregates::passes(c, k, low) == aggregates::passes(c, k, high)
 }
 
 // Whether true (or false) elements that come to x settle a count or a sum that is at most `high`.
@@ -63,10 +50,10 @@ pub fn bound(sign: bool, c: Comparison, k: usize, high: usize, x: usize) -> bool
     ensures { result ≡ bound_by sign c k high x }
 {
     if sign {
-        return alike(c, k, x, high);
+        alike(c, k, x, high)
+    } else {
+        alike(c, k, 0, high - x)
     }
-    let rest = high - x;
-    alike(c, k, 0, rest)
 }
 
 // What all elements come to.
@@ -75,11 +62,8 @@ pub fn whole(w: &[i32], count: bool) -> usize
     ensures { result ≡ whole_of count (pairs w.now) }
 {
     let mut x: usize = 0;
-    let mut left = w.len() / 2;
-    while 0 < left {
-        left -= 1;
-        let i = 2 * left;
-        x += aggregates::weight(count, words::atom(w, i));
+    for [value, _] in w.as_chunks::<2>().0 {
+        x += aggregates::weight(count, words::size(*value));
     }
     x
 }
@@ -101,22 +85,17 @@ pub fn shortest(
 {
     let mut acc = more;
     let mut x: usize = 0;
-    let n = w.len() / 2;
-    let mut i: usize = 0;
-    while i < n {
+    for [value, atom] in w.as_chunks::<2>().0 {
         if bound(sign, c, k, high, x) {
             return Run {
                 settled: true,
                 reason: acc,
             };
         }
-        let at = 2 * i;
-        let place = at + 1;
-        let on = of_sign(sign, crate::byte_at(w, place, values));
-        let next = joined(on, words::atom(w, place), reasons, acc);
+        let on = crate::affirms(sign, crate::byte(*atom, values));
+        let next = joined(on, words::size(*atom), reasons, acc);
         acc = next;
-        x += aggregates::part(on, aggregates::weight(count, words::atom(w, at)));
-        i += 1;
+        x += aggregates::part(on, aggregates::weight(count, words::size(*value)));
     }
     let settled = bound(sign, c, k, high, x);
     Run {
@@ -160,11 +139,8 @@ pub fn passing(w: &[i32], c: Comparison, k: usize) -> usize
     ensures { result ≡ passing_of c k (pairs w.now) }
 {
     let mut x: usize = 0;
-    let mut left = w.len() / 2;
-    while 0 < left {
-        left -= 1;
-        let i = 2 * left;
-        x += aggregates::part(aggregates::passes(c, k, words::atom(w, i)), 1);
+    for [value, _] in w.as_chunks::<2>().0 {
+        x += usize::from(aggregates::passes(c, k, words::size(*value)));
     }
     x
 }
@@ -189,18 +165,13 @@ pub fn settles_alone(each: bool, b: u8, ok: bool, pass: usize, fail: usize) -> b
     if b == 0 {
         return false;
     }
-    let others = aggregates::part(ok, 1) < pass;
-    alone(each, b == 1, ok, others, aggregates::part(!ok, 1) < fail)
-}
-
-// One of two sets.
-pub fn either(first: bool, a: [u64; 4], b: [u64; 4]) -> [u64; 4]
-    ensures { result ≡ cond first a b }
-{
-    if first {
-        return a;
-    }
-    b
+    alone(
+        each,
+        b == 1,
+        ok,
+        usize::from(ok) < pass,
+        usize::from(!ok) < fail,
+    )
 }
 
 // The reasons of what settles a min or a max, joined to a set: of the first element that does so alone, or else of the false ones, if they do,
@@ -217,19 +188,15 @@ pub fn single_reason(
     requires { Paired w.now }
     ensures { row result ≡ single_of each c k (valued values.now) (rows reasons.now) (pairs w.now) (row more) }
 {
-    let n = w.len() / 2;
     let pass = passing(w, c, k);
-    let fail = n - pass;
+    let fail = w.len() / 2 - pass;
     let mut falses = more;
     let mut all = more;
     let mut may = false;
-    let mut i: usize = 0;
-    while i < n {
-        let at = 2 * i;
-        let place = at + 1;
-        let b = crate::byte_at(w, place, values);
-        let ok = aggregates::passes(c, k, words::atom(w, at));
-        let p = words::atom(w, place);
+    for [value, atom] in w.as_chunks::<2>().0 {
+        let b = crate::byte(*atom, values);
+        let ok = aggregates::passes(c, k, words::size(*value));
+        let p = words::size(*atom);
         if settles_alone(each, b, ok, pass, fail) {
             return joined(true, p, reasons, more);
         }
@@ -238,19 +205,15 @@ pub fn single_reason(
         falses = narrow;
         all = wide;
         may = (ok & (b < 2)) | may;
-        i += 1;
     }
-    either(may, all, falses)
+    if may { all } else { falses }
 }
 
 // Whether the comparison is "greater than".
 pub fn above(c: Comparison) -> bool
     ensures { result ≡ asks_each Min c }
 {
-    match c {
-        Comparison::Less => false,
-        Comparison::Greater => true,
-    }
+    matches!(c, Comparison::Greater)
 }
 
 // The reason of the aggregate that begins at `at`, joined to a set.
@@ -266,10 +229,8 @@ pub fn aggregate_reason(
 {
     let w = layout::pairs(t, at);
     let c = layout::comparison(t, at);
-    let place = at + 2;
-    let k = aggregates::limit(t, place);
-    let f = layout::function(t, at);
-    match f {
+    let k = aggregates::limit(t, at + 2);
+    match layout::function(t, at) {
         Function::Count => adds_reason(w, true, c, k, values, reasons, more),
         Function::Sum => adds_reason(w, false, c, k, values, reasons, more),
         Function::Min => single_reason(w, above(c), c, k, values, reasons, more),

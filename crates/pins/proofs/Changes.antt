@@ -3,6 +3,7 @@ use mathlib.Core.Path.{◌≡◌, refl, sym, ap, ◌∙◌, subst}
 use mathlib.Core.Bool.{Bool, false, not}
 use mathlib.Core.Option.{Option, none, some}
 use mathlib.Core.List.{List, [], ◌++◌}
+use Rattle.std.specs.Prelude.{⊤, Result, Ok, Err}
 use Prim.Native.Nat.{ℕ, zero, suc, ◌+◌, ◌-◌, ◌<◌}
 use native.Mathlib.Omega.{arith}
 use lib.Dec.{ltb}
@@ -11,8 +12,6 @@ use lib.ListN.{length, get_or, take, drop, set, length-set, length-append, lengt
 use lib.Seq.{take-set-le, take-append_seam}
 use Rattle.meaning.specs.Cycles.{inside}
 use Rattle.results.specs.declared.Refusal.{Refusal}
-use Rattle.results.specs.declared.Pinned.{Pinned}
-use Rattle.results.specs.declared.Pinned.TheVariants as changed
 use Rattle.results.specs.Results.{number_of, place_of, CheckReport, refusal_check, pinned_report_of}
 use Rattle.table.specs.Contents.{Contents, encode}
 use Rattle.table.proofs.Accepted.{accepted_encoding}
@@ -52,7 +51,7 @@ unpin_taken n s h = ap (λ (b : Bool). first b 23 none) (no_pins_not s (held_in 
 -- ---- pins and removals
 
 -- refused: "The session stays as it stood"
-pub changing_refused : (call : Call) (s : List ℤ) (r : Pinned) (k : ℕ) → refusal (atoms_in s) (pins_in s) call ≡ some k → pinned_report_of r ≡ refusal_check k 0 → Changing call s s r
+pub changing_refused : (call : Call) (s : List ℤ) (r : Result ⊤ Refusal) (k : ℕ) → refusal (atoms_in s) (pins_in s) call ≡ some k → pinned_report_of r ≡ refusal_check k 0 → Changing call s s r
 changing_refused call s r k e f = record {
   told = f ∙ sym (ap told_for e);
   words = sym (ap (λ (o : Option ℕ). kept_or o s (changed_by call s)) e);
@@ -63,7 +62,7 @@ changing_refused call s r k e f = record {
 }
 
 module _ (s : List ℤ) (l : length s ≡ 16451) where
-  pub changing_pin : (p : ℕ) (v : Bool) → refusal (atoms_in s) (pins_in s) (pin p v) ≡ none → Changing (pin p v) s (with_pin p v s) changed.Done
+  pub changing_pin : (p : ℕ) (v : Bool) → refusal (atoms_in s) (pins_in s) (pin p v) ≡ none → Changing (pin p v) s (with_pin p v s) (Ok tt)
   changing_pin p v e =
       let t = taken_e (atoms_in s) (pins_in s) p v e in
       let room : held_in s < 64 = subst (λ (k : ℕ). k < 64) (pins_length s (held_in s)) t.room in
@@ -88,7 +87,7 @@ module _ (s : List ℤ) (l : length s ≡ 16451) where
   fewer zero h = absurd (omega arith)
   fewer (suc k) h = let z : suc k - 1 ≡ k = omega arith in ap (pins_to s) z
 
-  pub changing_unpin : refusal (atoms_in s) (pins_in s) unpin ≡ none → 0 < held_in s → Changing unpin s (without_pin s) changed.Done
+  pub changing_unpin : refusal (atoms_in s) (pins_in s) unpin ≡ none → 0 < held_in s → Changing unpin s (without_pin s) (Ok tt)
   changing_unpin e k =
       let few = number_small s 16385 64 in
       let h : held_in (without_pin s) ≡ held_in s - 1 = number_same s 16385 (held_in s - 1) 64 (omega arith) (omega arith) in
@@ -104,7 +103,7 @@ module _ (s : List ℤ) (l : length s ≡ 16451) where
 
 -- ---- opening
 
-pub opening_refused : (cycles : Bool) (t s : List ℤ) (f : Refusal) → RefusedBy cycles t lent.Nothing (number_of f) (place_of f) → Opening cycles t s s (changed.Refused f)
+pub opening_refused : (cycles : Bool) (t s : List ℤ) (f : Refusal) → RefusedBy cycles t lent.Nothing (number_of f) (place_of f) → Opening cycles t s s (Err f)
 opening_refused cycles t s f h = record {
   refused = λ n i. (
     λ k. subst (λ (x : CheckReport). RefusedBy cycles t lent.Nothing x.number x.place) k h,
@@ -174,12 +173,12 @@ module _ (cycles : Bool) (t s : List ℤ) (l : length s ≡ 16451) (c : Contents
   unfolding pins_to
   pins = ap (pins_to (opened_with cycles t s)) held
 
-  kept : Opened cycles t c s (opened_with cycles t s) changed.Done
+  kept : Opened cycles t c s (opened_with cycles t s) (Ok tt)
   kept = record { done = refl; words = refl; table = table; atoms = atoms; pins = pins; mode = mode }
 
-  pub opening_accepted : Opening cycles t s (opened_with cycles t s) changed.Done
+  pub opening_accepted : Opening cycles t s (opened_with cycles t s) (Ok tt)
   opening_accepted = record {
     refused = λ n i. (λ k. absurd (let z = ap (λ (x : CheckReport). x.kind) k in omega arith), λ k. absurd (refused_not_accepted t lent.Nothing n i c k a));
     untouched = λ n i k. absurd (let z = ap (λ (x : CheckReport). x.kind) k in omega arith);
-    opened = λ d b. subst (λ (x : Contents). Opened cycles t x s (opened_with cycles t s) changed.Done) (accepted_unique t lent.Nothing c d a b) kept;
+    opened = λ d b. subst (λ (x : Contents). Opened cycles t x s (opened_with cycles t s) (Ok tt)) (accepted_unique t lent.Nothing c d a b) kept;
   }

@@ -8,6 +8,7 @@ use mathlib.Core.Path.{◌≡◌, refl, sym, ◌∙◌, ap, subst}
 use mathlib.Core.Bool.{Bool}
 use mathlib.Core.Option.{none, some}
 use mathlib.Core.List.{List, [], ◌∷◌}
+use Rattle.std.specs.Prelude.{⊤, Result, Ok}
 use Prim.Native.Nat.{ℕ, ◌≤◌, ◌<◌}
 use lib.IntN.{ℤ}
 use lib.ListN.{length}
@@ -15,8 +16,8 @@ use Rattle.meaning.proofs.Cond.{some_inj, if_lt_yes}
 use Rattle.levels.specs.Levels.{Levels, no_levels}
 use Rattle.steps.specs.Steps.{conflict, propagate}
 use Rattle.results.specs.declared.Counts.{Counts}
-use Rattle.results.specs.declared.Pinned.{Pinned}
 use Rattle.results.specs.declared.Solved.TheVariants as solved
+use Rattle.results.specs.declared.Refusal.{Refusal}
 use Rattle.results.specs.Results.{report_of, refusal_report}
 use Rattle.search.specs.Search.{Outcome, start}
 use Rattle.smaller.specs.Cyclic.{test_by, problem_by}
@@ -41,7 +42,7 @@ use Rattle.pins.proofs.Unique.{solution_unique}
 abbrev Kept : List ℤ → List Call → List ℤ → Type 0
 Kept s calls u = (table_in u ≡ table_in s) × (pins_in u ≡ held_from (atoms_in s) (pins_in s) calls) × (cycles_in u ≡ cycles_in s)
 
-changed_keeps : (call : Call) (s w u : List ℤ) (r : Pinned) (calls : List Call) → Changing call s w r → Kept w calls u → Kept s (call ∷ calls) u
+changed_keeps : (call : Call) (s w u : List ℤ) (r : Result ⊤ Refusal) (calls : List Call) → Changing call s w r → Kept w calls u → Kept s (call ∷ calls) u
 unfolding held_from
 changed_keeps call s w u r calls c k = (
   k.0 ∙ c.table,
@@ -58,7 +59,7 @@ after_keeps s (plan room lim ∷ calls) u k =
     let x = after_keeps s calls u k in
     (x.0, x.1 ∙ ap (λ (p : Pins). held_from (atoms_in s) p calls) (sym (plan_stays (atoms_in s) room lim (pins_in s))), x.2)
 
-module _ (cycles : Bool) (t m s : List ℤ) (r : Pinned) (o : Opening cycles t m s r) (c : Contents) (a : AcceptedBy cycles t lent.Nothing c) (calls : List Call) (u : List ℤ) (k : After s calls u) where
+module _ (cycles : Bool) (t m s : List ℤ) (r : Result ⊤ Refusal) (o : Opening cycles t m s r) (c : Contents) (a : AcceptedBy cycles t lent.Nothing c) (calls : List Call) (u : List ℤ) (k : After s calls u) where
   pub session_holds : (table_in u ≡ t) × (pins_in u ≡ held c.atoms calls) × (cycles_in u ≡ cycles)
   session_holds =
       let x = after_keeps s calls u k in
@@ -95,7 +96,7 @@ module _ (cycles : Bool) (t m s : List ℤ) (r : Pinned) (o : Opening cycles t m
     -- a conflict of the first propagation, before any choice
     module _ (C : Levels) (e : (propagate (program c) c.atoms (start (problem_by cycles (program c) c.atoms (pins_of (held c.atoms calls)))).interpretation
         (start (problem_by cycles (program c) c.atoms (pins_of (held c.atoms calls)))).reason).verdict ≡ conflict C) where
-      pub pins_alone : 256 ≤ length old → (C ≡ no_levels) × ((k : Counts) × (x.solved ≡ solved.Nothing k) × (k.choices ≡ 0) × (k.skips ≡ 0))
+      pub pins_alone : 256 ≤ length old → (C ≡ no_levels) × ((k : Counts) × (x.solved ≡ Ok (solved.Nothing k)) × (k.choices ≡ 0) × (k.skips ≡ 0))
       pins_alone l =
           let n = c.atoms in
           let P = program c in
@@ -103,12 +104,12 @@ module _ (cycles : Bool) (t m s : List ℤ) (r : Pinned) (o : Opening cycles t m
           let L = mode_laws cycles n P A (heads_free t lent.Nothing c a) a.no_aggregate (pins_of (held n calls)) (pins_in_lem n P (held n calls) (held_good n calls)) in
           let w = (plan_held l).1 in
           let f : w.0 ≡ _ = some_inj (sym w.1.jumping ∙ pins_conflict n P (test_by cycles P n) (held n calls) L lim C e) in
-          (pins_reason n P (test_by cycles P n) (held n calls) L lim C e, (_, w.1.result ∙ ap reported f, refl, refl))
+          (pins_reason n P (test_by cycles P n) (held n calls) L lim C e, (_, w.1.result ∙ ap (λ (q : Outcome). Ok (reported q)) f, refl, refl))
 
 -- ---- against a new session
 
-pub history : (cycles : Bool) (t : List ℤ) (c : Contents) → AcceptedBy cycles t lent.Nothing c → (m s : List ℤ) (r : Pinned) → Opening cycles t m s r → (calls : List Call) (u : List ℤ) → After s calls u
-    → (m' s' : List ℤ) (r' : Pinned) → Opening cycles t m' s' r' → (u' : List ℤ) → After s' (settings (held c.atoms calls)) u'
+pub history : (cycles : Bool) (t : List ℤ) (c : Contents) → AcceptedBy cycles t lent.Nothing c → (m s : List ℤ) (r : Result ⊤ Refusal) → Opening cycles t m s r → (calls : List Call) (u : List ℤ) → After s calls u
+    → (m' s' : List ℤ) (r' : Result ⊤ Refusal) → Opening cycles t m' s' r' → (u' : List ℤ) → After s' (settings (held c.atoms calls)) u'
     → (lim : ℕ) (old new new' : List ℕ) (x x' : Solution) → Plans u lim old new x → Plans u' lim old new' x' → (x ≡ x') × (new ≡ new')
 history cycles t c a m s r o calls u k m' s' r' o' u' k' lim old new new' x x' p p' =
     let h = session_holds cycles t m s r o c a calls u k in

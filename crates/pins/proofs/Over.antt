@@ -1,12 +1,14 @@
 -- Promises over one set of answer sets, said of another that has the same members. Assumes nothing.
 use mathlib.Core.List.{List}
+use Rattle.std.specs.Prelude.{Result}
 use Prim.Native.Nat.{ℕ}
 use Rattle.meaning.specs.Aggregates.{Atoms}
+use Rattle.results.specs.declared.Refusal.{Refusal}
 use Rattle.results.specs.declared.Solved.{Solved}
 use Rattle.search.specs.Search.{Problem, Outcome}
 use Rattle.promises.specs.Promises.{Meaning, Searching}
 
-module _ (AS BS : Atoms → Type 0) (to : (X : Atoms) → AS X → BS X) (from : (X : Atoms) → BS X → AS X) (lim : ℕ) (old new : List ℕ) (r : Solved) where
+module _ (AS BS : Atoms → Type 0) (to : (X : Atoms) → AS X → BS X) (from : (X : Atoms) → BS X → AS X) (lim : ℕ) (old new : List ℕ) (r : Result Solved Refusal) where
   pub meaning_over : (n : ℕ) → Meaning n AS lim old new r → Meaning n BS lim old new r
   meaning_over n m = record {
     answers = λ k h. let w = m.answers k h in record { atoms = w.atoms; is_answer = to w.atoms w.is_answer; first = λ Z b. w.first Z (from Z b); written = w.written };

@@ -3,6 +3,7 @@ use mathlib.Core.Path.{◌≡◌, refl, ◌∙◌, ap, subst}
 use mathlib.Core.Bool.{Bool}
 use mathlib.Core.Option.{some}
 use mathlib.Core.List.{List}
+use Rattle.std.specs.Prelude.{Result, Ok, Err}
 use Prim.Native.Nat.{ℕ}
 use lib.IntN.{ℤ}
 use lib.ListN.{length}
@@ -10,7 +11,6 @@ use Rattle.meaning.specs.Aggregates.{Atoms}
 use Rattle.meaning.specs.Program.{AtomsIn}
 use Rattle.results.specs.declared.Refusal.{Refusal}
 use Rattle.results.specs.declared.Solved.{Solved}
-use Rattle.results.specs.declared.Solved.TheVariants as solved
 use Rattle.results.specs.Results.{number_of, place_of, Report, report_of, refusal_report}
 use Rattle.search.specs.Search.{Problem, Outcome, jump, solve}
 use Rattle.search.specs.Laws.{Laws}
@@ -34,15 +34,15 @@ use Rattle.pins.proofs.Over.{meaning_over, searching_over}
 
 module _ (cycles : Bool) (t : List ℤ) (pins : Pins) (lim : ℕ) (old : List ℕ) (f : Refusal) (h : RefusedBy cycles t (Plan (length old)) (number_of f) (place_of f)) where
   -- the number and the place that are told are those of the table's row
-  row : (n i : ℕ) → report_of (solved.Refused f) ≡ refusal_report n i → RefusedBy cycles t (Plan (length old)) n i
+  row : (n i : ℕ) → report_of (Err f) ≡ refusal_report n i → RefusedBy cycles t (Plan (length old)) n i
   row n i k = subst (λ (x : Report). RefusedBy cycles t (Plan (length old)) x.number x.place) k h
 
-  back : (n i : ℕ) → RefusedBy cycles t (Plan (length old)) n i → report_of (solved.Refused f) ≡ refusal_report n i
+  back : (n i : ℕ) → RefusedBy cycles t (Plan (length old)) n i → report_of (Err f) ≡ refusal_report n i
   back n i k =
       let u = refused_unique t (Plan (length old)) (number_of f) (place_of f) n i h k in
       ap (λ (m : ℕ). refusal_report m (place_of f)) u.0 ∙ ap (refusal_report n) u.1
 
-  pub planning_refused : Planning cycles t pins lim old old (solved.Refused f)
+  pub planning_refused : Planning cycles t pins lim old old (Err f)
   planning_refused = record {
     refused = λ n i. (row n i, back n i);
     untouched = λ n i j. refl;
@@ -50,7 +50,7 @@ module _ (cycles : Bool) (t : List ℤ) (pins : Pins) (lim : ℕ) (old : List �
     searching = λ c a. absurd (refused_not_accepted t (Plan (length old)) (number_of f) (place_of f) c h a);
   }
 
-module _ (cycles : Bool) (t : List ℤ) (pins : Pins) (lim : ℕ) (old new : List ℕ) (r : Solved) (c : Contents) (a : AcceptedBy cycles t (Plan (length old)) c) where
+module _ (cycles : Bool) (t : List ℤ) (pins : Pins) (lim : ℕ) (old new : List ℕ) (r : Result Solved Refusal) (c : Contents) (a : AcceptedBy cycles t (Plan (length old)) c) where
   abbrev taken : Pins
   taken = taken_of c.atoms pins
 
@@ -75,7 +75,7 @@ module _ (cycles : Bool) (t : List ℤ) (pins : Pins) (lim : ℕ) (old new : Lis
   from : (X : Atoms) → Agrees (program c) taken X → AS X
   from = agrees_e c.atoms (program c) taken good
 
-  module _ (o : Outcome) (e : solve Q jump lim ≡ some o) (told : r ≡ reported o) (kept : new ≡ plan_after c.atoms o.result old) where
+  module _ (o : Outcome) (e : solve Q jump lim ≡ some o) (told : r ≡ Ok (reported o)) (kept : new ≡ plan_after c.atoms o.result old) where
     pub plan_means : Meaning c.atoms (Agrees (program c) taken) lim old new r
     plan_means = meaning_over AS (Agrees (program c) taken) to from lim old new r c.atoms (means AS Q L refl lim old new r jump o e (counted o) refl told kept)
 

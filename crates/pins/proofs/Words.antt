@@ -1,6 +1,5 @@
 -- How the memory of a session is read after a word was stored in it. Assumes nothing.
 --   number-*    a number kept at an index
---   copied-*    the table's words copied to the front
 --   pins-*      the pins
 use mathlib.Core.Path.{◌≡◌, refl, sym, ap, ◌∙◌}
 use mathlib.Core.Logic.{◌≢◌, ◌⊎◌, inl, inr}
@@ -16,6 +15,7 @@ use lib.ListN.{length, get_or, take, drop, set}
 use lib.Seq.{take-suc, drop-cons, append_snoc, set-append_seam, length-take-le, get_or-set_same, get_or-set_other, take-set-le}
 use mir.Syntax.{w32}
 use mir.Val.{SFits}
+use Rattle.std.specs.List.{list_any, range_with_len}
 use Rattle.meaning.specs.Cond.{if_lt}
 use Rattle.meaning.proofs.Cond.{if_lt_yes, if_lt_no, lt_case}
 use Rattle.sessions.specs.Sessions.{Pin, Pins, is_held}
@@ -53,18 +53,6 @@ pub number_same : (s : List ℤ) (i n most : ℕ) → i < length s → n ≤ mos
 number_same s i n most h k =
     let e : nat_abs (get_or (set s i (pos n)) i (pos 0)) ≡ n = ap nat_abs (get_or-set_same s i (pos n) (pos 0) h) in
     number_is (set s i (pos n)) i most (omega arith) ∙ e
-
--- ---- the words
-
-pub copied_more : (t s : List ℤ) (i : ℕ) → i < length t → i < length s → set (take i t ++ drop i s) i (get_or t i (pos 0)) ≡ take (i + 1) t ++ drop (i + 1) s
-copied_more t s i h k =
-    let l : length (take i t) ≡ i = length-take-le i t (omega arith) in
-    ap (λ (d : List ℤ). set (take i t ++ d) i (get_or t i (pos 0))) (drop-cons s i (pos 0) k)
-    ∙ ap (λ (j : ℕ). set (take i t ++ (get_or s i (pos 0) ∷ drop (suc i) s)) j (get_or t i (pos 0))) (sym l)
-    ∙ set-append_seam (take i t) (get_or s i (pos 0)) (drop (suc i) s) (get_or t i (pos 0))
-    ∙ sym (append_snoc (take i t) (get_or t i (pos 0)) (drop (suc i) s))
-    ∙ ap (λ (x : List ℤ). x ++ drop (suc i) s) (sym (take-suc t i (pos 0) h))
-    ∙ ap (λ (j : ℕ). take j t ++ drop j s) (sym (add-one i))
 
 -- ---- the table
 
@@ -129,25 +117,27 @@ pins_more s k p v l h i j =
 
 -- ---- whether an atom is pinned
 
-pub held_none : (s : List ℤ) (p : ℕ) → is_held p (pins_to s 0) ≡ false
-unfolding is_held pins_to
-held_none s p = refl
+swap : (a b c : Bool) → (a || (b || c)) ≡ (b || (a || c))
+swap true true c = refl
+swap true false c = refl
+swap false b c = refl
 
-pub held_here : (s : List ℤ) (p i : ℕ) → 0 < i → p ≡ atom_as (word_at s (i - 1)) → is_held p (pins_to s i) ≡ true
-unfolding is_held pins_to
-held_here s p zero h e = absurd (omega arith)
-held_here s p (suc i) h e =
-    let z : suc i - 1 ≡ i = omega arith in
-    let f : p ≡ atom_as (word_at s i) = e ∙ ap (λ (k : ℕ). atom_as (word_at s k)) z in
-    ap (λ (b : Bool). b || is_held p (pins_to s i)) (eq-eqb p (atom_as (word_at s i)) f)
+-- one number more in a range
+any_more : (t : ℕ → Bool) (n a : ℕ) → list_any t (range_with_len a (suc n)) ≡ (t (a + n) || list_any t (range_with_len a n))
+any_more t zero a = let e : a ≡ a + 0 = omega arith in ap (λ (k : ℕ). t k || false) e
+any_more t (suc n) a =
+    let e : a + 1 + n ≡ a + suc n = omega arith in
+    ap (λ (b : Bool). t a || b) (any_more t n (a + 1) ∙ ap (λ (k : ℕ). t k || list_any t (range_with_len (a + 1) n)) e)
+    ∙ swap (t a) (t (a + suc n)) (list_any t (range_with_len (a + 1) n))
 
-pub held_later : (s : List ℤ) (p i : ℕ) → 0 < i → (p ≡ atom_as (word_at s (i - 1)) → ⊥) → is_held p (pins_to s i) ≡ is_held p (pins_to s (i - 1))
+pub held_any : (s : List ℤ) (p k : ℕ) → list_any (λ (i : ℕ). eqb p (atom_as (word_at s i))) (range_with_len 0 k) ≡ is_held p (pins_to s k)
 unfolding is_held pins_to
-held_later s p zero h d = absurd (omega arith)
-held_later s p (suc i) h d =
-    let z : suc i - 1 ≡ i = omega arith in
-    let f : p ≡ atom_as (word_at s i) → ⊥ = λ e. d (e ∙ ap (λ (k : ℕ). atom_as (word_at s k)) (sym z)) in
-    ap (λ (b : Bool). b || is_held p (pins_to s i)) (ne_eqb p (atom_as (word_at s i)) f) ∙ ap (λ (k : ℕ). is_held p (pins_to s k)) (sym z)
+held_any s p zero = refl
+held_any s p (suc k) =
+    let e : 0 + k ≡ k = omega arith in
+    any_more (λ (i : ℕ). eqb p (atom_as (word_at s i))) k 0
+    ∙ ap (λ (i : ℕ). eqb p (atom_as (word_at s i)) || list_any (λ (j : ℕ). eqb p (atom_as (word_at s j))) (range_with_len 0 k)) e
+    ∙ ap (λ (b : Bool). eqb p (atom_as (word_at s k)) || b) (held_any s p k)
 
 -- ---- tests of the code
 

@@ -6,10 +6,9 @@
 --               other refusal, since its table is accepted
 --   PlansOn, Plans   the whole promise of `plan`: of a mode, a table and pins; of a session;  After: what a list of calls makes of a session
 -- Assumes nothing.
-use Rattle.std.specs.Prelude.{◌≡◌, Bool, ◌↔◌, List, [], ◌∷◌, ℕ, ℤ, length}
+use Rattle.std.specs.Prelude.{◌≡◌, Bool, ◌↔◌, List, [], ◌∷◌, ℕ, ℤ, length, ⊤, Result, Ok}
 use Rattle.std.proofs.Math.Option.{Option, none, some}
-use Rattle.results.specs.declared.Pinned.{Pinned}
-use Rattle.results.specs.declared.Pinned.TheVariants as changed
+use Rattle.results.specs.declared.Refusal.{Refusal}
 use Rattle.results.specs.declared.Solved.{Solved}
 use Rattle.results.specs.Results.{CheckReport, refusal_check, pinned_report_of, report_of, refusal_report}
 use Rattle.search.specs.Search.{Outcome}
@@ -26,15 +25,15 @@ use Rattle.pins.specs.Memory.{table_in, atoms_in, pins_in, taken_of, cycles_in, 
 -- ---- opening
 
 -- the session on the table t, which holds c, in the mode `cycles`
-pub record Opened (cycles : Bool) (t : List ℤ) (c : Contents) (old new : List ℤ) (r : Pinned) : Type 0 where
-  pub done : r ≡ changed.Done
+pub record Opened (cycles : Bool) (t : List ℤ) (c : Contents) (old new : List ℤ) (r : Result ⊤ Refusal) : Type 0 where
+  pub done : r ≡ Ok tt
   pub words : new ≡ opened_with cycles t old
   pub table : table_in new ≡ t
   pub atoms : atoms_in new ≡ c.atoms
   pub pins : pins_in new ≡ []
   pub mode : cycles_in new ≡ cycles
 
-pub record Opening (cycles : Bool) (t old new : List ℤ) (r : Pinned) : Type 0 where
+pub record Opening (cycles : Bool) (t old new : List ℤ) (r : Result ⊤ Refusal) : Type 0 where
   pub refused : (n i : ℕ) → (pinned_report_of r ≡ refusal_check n i) ↔ RefusedBy cycles t lent.Nothing n i
   pub untouched : (n i : ℕ) → pinned_report_of r ≡ refusal_check n i → new ≡ old
   pub opened : (c : Contents) → AcceptedBy cycles t lent.Nothing c → Opened cycles t c old new r
@@ -54,7 +53,7 @@ abbrev pub kept_or : Option ℕ → List ℤ → List ℤ → List ℤ
 kept_or none old new = new
 kept_or (some k) old new = old
 
-pub record Changing (call : Call) (old new : List ℤ) (r : Pinned) : Type 0 where
+pub record Changing (call : Call) (old new : List ℤ) (r : Result ⊤ Refusal) : Type 0 where
   pub told : pinned_report_of r ≡ told_for (refusal (atoms_in old) (pins_in old) call)
   pub words : new ≡ kept_or (refusal (atoms_in old) (pins_in old) call) old (changed_by call old)
   pub table : table_in new ≡ table_in old
@@ -65,7 +64,7 @@ pub record Changing (call : Call) (old new : List ℤ) (r : Pinned) : Type 0 whe
 -- ---- a plan
 
 -- t and pins: the table and the pins of the session, in its mode
-pub record Planning (cycles : Bool) (t : List ℤ) (pins : Pins) (lim : ℕ) (old new : List ℕ) (r : Solved) : Type 0 where
+pub record Planning (cycles : Bool) (t : List ℤ) (pins : Pins) (lim : ℕ) (old new : List ℕ) (r : Result Solved Refusal) : Type 0 where
   -- demand 1: 10, or the refusal of a table that no `open` accepted; then the whole buffer is as it was
   pub refused : (n i : ℕ) → (report_of r ≡ refusal_report n i) ↔ RefusedBy cycles t (lent.Plan (length old)) n i
   pub untouched : (n i : ℕ) → report_of r ≡ refusal_report n i → new ≡ old
@@ -88,6 +87,6 @@ Plans s lim old new r = PlansOn (cycles_in s) (table_in s) (pins_in s) lim old n
 -- the calls lead from the memory s to u; a plan only reads it
 abbrev pub After : List ℤ → List Call → List ℤ → Type 0
 After s [] u = s ≡ u
-After s (pin p v ∷ calls) u = (w : List ℤ) × (r : Pinned) × Changing (pin p v) s w r × After w calls u
-After s (unpin ∷ calls) u = (w : List ℤ) × (r : Pinned) × Changing unpin s w r × After w calls u
+After s (pin p v ∷ calls) u = (w : List ℤ) × (r : Result ⊤ Refusal) × Changing (pin p v) s w r × After w calls u
+After s (unpin ∷ calls) u = (w : List ℤ) × (r : Result ⊤ Refusal) × Changing unpin s w r × After w calls u
 After s (plan room lim ∷ calls) u = After s calls u

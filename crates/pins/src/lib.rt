@@ -12,10 +12,9 @@ ghost use Rattle.pins.specs.Session.{Opening, Changing, Plans};
 use foundation::Candidates;
 use heads::Lists;
 use judging::Buffer;
-use layout::Table;
-use results::{Pinned, Refusal, Solved};
+use layout::{Accepted, Table};
+use results::Refusal;
 use solver::Solution;
-use table::Fault;
 
 mod memory;
 mod setting;
@@ -25,37 +24,36 @@ pub type Session = [i32; memory::SIZE];
 
 // Begins a session with a table, a mode (request 14: whether head cycles are taken) and no pin, or refuses the table as solving does, without 10; a refusal
 // leaves the session as it stood. The memory that the judge works in is lent: nothing is said of what it holds before or after, and nothing depends on it.
-pub fn open_with(words: &[i32], cycles: bool, session: &mut Session, lists: &mut Lists) -> Pinned
+pub fn open_with(
+    words: &[i32],
+    cycles: bool,
+    session: &mut Session,
+    lists: &mut Lists,
+) -> Result<(), Refusal>
     ensures { Opening cycles words.now session.old session.new result }
 {
     open_in(words, cycles, session, lists)
 }
 
 // The same with memory of its own.
-pub fn open(words: &[i32], cycles: bool, session: &mut Session) -> Pinned
+pub fn open(words: &[i32], cycles: bool, session: &mut Session) -> Result<(), Refusal>
     ensures { Opening cycles words.now session.old session.new result }
 {
     let mut lists = [0u16; heads::SIZE];
     open_with(words, cycles, session, &mut lists)
 }
 
-fn open_in(words: &[i32], cycles: bool, s: &mut [i32], lists: &mut Lists) -> Pinned
+fn open_in(words: &[i32], cycles: bool, s: &mut [i32], lists: &mut Lists) -> Result<(), Refusal>
     requires { length s.old ≡ 16451 }
     ensures { Opening cycles words.now s.old s.new result }
 {
-    let judged = judging::judge_in(words, cycles, Buffer::Nothing, lists);
-    let fault = judged.fault;
-    match fault {
-        Fault::Refused(f) => Pinned::Refused(f),
-        Fault::Nothing => {
-            memory::fill(words, cycles, s);
-            Pinned::Done
-        }
-    }
+    judging::judge_in(words, cycles, Buffer::Nothing, lists)?;
+    memory::fill(words, cycles, s);
+    Ok(())
 }
 
 // Pins an atom: 20, 21 and 22 in that order; a refusal leaves the session as it stood.
-pub fn pin(session: &mut Session, atom: usize, value: bool) -> Pinned
+pub fn pin(session: &mut Session, atom: usize, value: bool) -> Result<(), Refusal>
     ensures { Changing (pin atom value) session.old session.new result }
 {
     pin_in(session, atom, value)
@@ -64,48 +62,45 @@ pub fn pin(session: &mut Session, atom: usize, value: bool) -> Pinned
 fn is_inside(n: usize, p: usize) -> bool
     ensures { result ≡ inside n p }
 {
-    if p < 1 {
-        return false;
-    }
-    p <= n
+    1 <= p && p <= n
 }
 
-fn pin_in(s: &mut [i32], atom: usize, value: bool) -> Pinned
+fn pin_in(s: &mut [i32], atom: usize, value: bool) -> Result<(), Refusal>
     requires { length s.old ≡ 16451 }
     ensures { Changing (pin atom value) s.old s.new result }
 {
     let n = memory::number(s, 0, Table::ATOMS);
     if !is_inside(n, atom) {
-        return Pinned::Refused(Refusal::PinNumber);
+        return Err(Refusal::PinNumber);
     }
     let held = memory::number(s, memory::HELD, memory::MOST);
     if memory::is_held(s, held, atom) {
-        return Pinned::Refused(Refusal::PinTwice);
+        return Err(Refusal::PinTwice);
     }
     if 63 < held {
-        return Pinned::Refused(Refusal::PinsFull);
+        return Err(Refusal::PinsFull);
     }
     memory::push(s, held, atom, value);
-    Pinned::Done // the pin is held
+    Ok(()) // the pin is held
 }
 
 // Takes the last pin off, or refuses with 23.
-pub fn unpin(session: &mut Session) -> Pinned
+pub fn unpin(session: &mut Session) -> Result<(), Refusal>
     ensures { Changing unpin session.old session.new result }
 {
     unpin_in(session)
 }
 
-fn unpin_in(s: &mut [i32]) -> Pinned
+fn unpin_in(s: &mut [i32]) -> Result<(), Refusal>
     requires { length s.old ≡ 16451 }
     ensures { Changing unpin s.old s.new result }
 {
     let held = memory::number(s, memory::HELD, memory::MOST);
     if held < 1 {
-        return Pinned::Refused(Refusal::NoPin);
+        return Err(Refusal::NoPin);
     }
     memory::pop(s, held);
-    Pinned::Done
+    Ok(())
 }
 
 // The plan of a session: what `solver::solve` gives, over the answer sets that agree with the pins held. It writes nothing to the session. The memory of the
@@ -144,22 +139,23 @@ fn plan_in(
     let count = memory::number(s, memory::COUNT, Table::WORDS);
     let words = &s[..count];
     let cycles = memory::takes_cycles(s);
-    let room = plan.len();
-    let judged = judging::judge_in(words, cycles, Buffer::Plan(room), lists);
-    let fault = judged.fault;
-    match fault {
-        Fault::Refused(f) => {
-            let solved = Solved::Refused(f);
+    match judging::judge_in(words, cycles, Buffer::Plan(plan.len()), lists) {
+        Err(f) => {
             let whys = explaining::nothing();
-            Solution { solved, whys }
+            Solution {
+                solved: Err(f),
+                whys,
+            }
         }
-        Fault::Nothing => {
-            let tb = judged.table;
-            let found = setting::search(words, tb, cycles, lists, s, limit, candidates);
-            let atoms = tb.atoms;
-            let solved = solver::plans::report(found, atoms, plan);
-            let whys = solver::whys_by(words, tb, cycles, solved, found.it, candidates);
-            Solution { solved, whys }
+        Ok(places) => {
+            let t = Accepted { words, places };
+            let found = setting::search(&t, cycles, lists, s, limit, candidates);
+            let solved = solver::plans::report(found, places.atoms, plan);
+            let whys = solver::whys_by(&t, cycles, solved, found.it, candidates);
+            Solution {
+                solved: Ok(solved),
+                whys,
+            }
         }
     }
 }

@@ -44,26 +44,11 @@ fn put(s: &mut [i32], i: usize, n: usize)
     s[i] = n as i32;
 }
 
-// The table's words, kept from index 0 on.
-fn copy(words: &[i32], s: &mut [i32])
-    requires { length words.now ≤ length s.old }
-    ensures { s.new ≡ words.now ++ drop (length words.now) s.old }
-{
-    let mut i: usize = 0;
-    while i < words.len() {
-        s[i] = words[i];
-        i += 1;
-    }
-}
-
 // A mode as it is kept.
 fn mode(cycles: bool) -> usize
     ensures { result ≡ mode_word cycles }
 {
-    if cycles {
-        return 1;
-    }
-    0
+    usize::from(cycles)
 }
 
 // Whether the session takes head cycles (request 14): any word but 0 says so.
@@ -71,8 +56,7 @@ pub fn takes_cycles(s: &[i32]) -> bool
     requires { length s.now ≡ 16451 }
     ensures { result ≡ cycles_in s.now }
 {
-    let n = words::atom(s, MODE);
-    n != 0
+    words::atom(s, MODE) != 0
 }
 
 // A new session: the words, no pin, and the mode.
@@ -81,11 +65,10 @@ pub fn fill(words: &[i32], cycles: bool, s: &mut [i32])
     ensures { s.new ≡ opened_with cycles words.now s.old }
 {
     let count = words.len();
-    let kept = mode(cycles);
-    copy(words, s);
+    s[..count].copy_from_slice(words);
     put(s, COUNT, count);
     put(s, HELD, 0);
-    put(s, MODE, kept);
+    put(s, MODE, mode(cycles));
 }
 
 // The atom of a pin's word.
@@ -122,14 +105,7 @@ pub fn is_held(s: &[i32], held: usize, p: usize) -> bool
     requires { (held ≤ 64) × (length s.now ≡ 16451) }
     ensures { result ≡ is_held p (pins_to s.now held) }
 {
-    let mut i = held;
-    while 0 < i {
-        i -= 1;
-        if p == atom_at(s, i) {
-            return true;
-        }
-    }
-    false
+    (0..held).any(|i| p == atom_at(s, i))
 }
 
 // The word of a pin.

@@ -1,7 +1,6 @@
 // The search of a session: 01's, from the start that the pins make. "Pins are set before the first pass, in order, with empty reasons." A pin that `pin` would refuse
 // in a new session given the pins in this order is passed over; a session that `open` made holds none.
 ghost use Rattle.std.specs.Prelude.{◌≡◌, Bool, ◌≤◌, ◌<◌, length};
-ghost use Rattle.layout.specs.Layout.{Laid};
 ghost use Rattle.heads.specs.Heads.{Listed, taking};
 ghost use Rattle.interpretation.specs.State.{set_at};
 ghost use Rattle.interpretation.specs.View.{view, valued};
@@ -15,7 +14,7 @@ use crate::memory;
 use foundation::Candidates;
 use heads::Lists;
 use interpretation::{Interpretation, Value};
-use layout::Table;
+use layout::Accepted;
 use outcome::{Found, Start};
 
 // Whether an atom of 1 to n has no value yet.
@@ -23,18 +22,10 @@ fn free(values: &[u8; 256], n: usize, p: usize) -> bool
     requires { n ≤ 256 }
     ensures { result ≡ is_free n (valued values.now) p }
 {
-    if p < 1 {
+    if p < 1 || n < p {
         return false;
     }
-    if n < p {
-        return false;
-    }
-    let value = interpretation::value_of(values, p);
-    match value {
-        Value::Undefined => true,
-        Value::True => false,
-        Value::False => false,
-    }
+    matches!(interpretation::value_of(values, p), Value::Undefined)
 }
 
 // A pin is no choice: its atom is set at the present level, which is 0, and no level is opened.
@@ -63,30 +54,27 @@ fn start(s: &[i32], n: usize) -> Interpretation
 {
     let held = memory::number(s, memory::HELD, memory::MOST);
     let mut it = Interpretation::start();
-    let mut i: usize = 0;
-    while i < held {
+    for i in 0..held {
         let p = memory::atom_at(s, i);
         let v = memory::value_at(s, i);
         it = set(it, n, p, v);
-        i += 1;
     }
     it
 }
 
 // The search over an accepted table with the pins of a session.
 pub fn search(
-    t: &[i32],
-    tb: Table,
+    t: &Accepted,
     cycles: bool,
     lists: &Lists,
     s: &[i32],
     limit: u32,
     candidates: &mut Candidates,
 ) -> Found
-    requires { Laid t.now tb × Listed t.now tb lists.now × (length s.now ≡ 16451) }
-    ensures { Solves (problem_by cycles (taking t.now lists.now) tb.atoms (pins_of (taken_of tb.atoms (pins_in s.now)))) limit result }
+    requires { Listed t.now.words.now t.now.places lists.now × (length s.now ≡ 16451) }
+    ensures { Solves (problem_by cycles (taking t.now.words.now lists.now) t.now.places.atoms (pins_of (taken_of t.now.places.atoms (pins_in s.now)))) limit result }
 {
-    let n = tb.atoms;
+    let n = t.places.atoms;
     let it = start(s, n);
     let from = Start {
         it,
@@ -95,6 +83,6 @@ pub fn search(
         passes: 0,
     };
     let reasons = levels::no_rows();
-    let halt = jumping::search_by(t, tb, cycles, lists, limit, from, reasons, candidates);
+    let halt = jumping::search_by(t, cycles, lists, limit, from, reasons, candidates);
     halt.found
 }

@@ -9,8 +9,8 @@ use Rattle.meaning.specs.Program.{Program}
 use Rattle.meaning.specs.Answers.{AnswerSet}
 use Rattle.results.specs.declared.Ask.{Ask}
 use Rattle.results.specs.declared.Refusal.{Refusal}
+use Rattle.std.specs.Prelude.{Result, Ok, Err}
 use Rattle.results.specs.declared.Solved.{Solved}
-use Rattle.results.specs.declared.Solved.TheVariants as solved
 use Rattle.results.specs.Results.{number_of, place_of}
 use Rattle.layout.specs.declared.Table.{Table}
 use Rattle.layout.specs.Layout.{program_of}
@@ -35,7 +35,7 @@ use Rattle.plain.proofs.Sides.{found_outcome}
 use Rattle.plain.proofs.Meant.{searched}
 
 -- refused as `solver::solve` is
-pub plainly_refused : (t : List ℤ) (ask : Ask) (old new : List ℕ) (r : Solved) (f : Refusal) → RefusedBy ask.cycles t (Plan (length old)) (number_of f) (place_of f) → r ≡ solved.Refused f → new ≡ old → Plainly t ask old new r
+pub plainly_refused : (t : List ℤ) (ask : Ask) (old new : List ℕ) (r : Result Solved Refusal) (f : Refusal) → RefusedBy ask.cycles t (Plan (length old)) (number_of f) (place_of f) → r ≡ Err f → new ≡ old → Plainly t ask old new r
 plainly_refused t ask old new r f h e k =
     let s = solving_refused t ask old new r f h e k in
     record {
@@ -51,16 +51,16 @@ module _ (t : List ℤ) (ask : Ask) (old new : List ℕ) (r : Solved) (c : Conte
   L = mode_base_laws ask.cycles c.atoms (program c) (accepted_atoms t c a.holds) (heads_free t (Plan (length old)) c a) a.no_aggregate
 
   plainly_accepted : (p : Outcome) → solve (base_by ask.cycles (program c) c.atoms) plain ask.limit ≡ some p → r ≡ solved_by p.result (plain_counts p.choices)
-      → new ≡ plan_after c.atoms p.result old → Plainly t ask old new r
+      → new ≡ plan_after c.atoms p.result old → Plainly t ask old new (Ok r)
   plainly_accepted p e told kept =
       let lim = ask.limit in
-      let m = means (AnswerSet (program c)) (base_by ask.cycles (program c) c.atoms) L refl lim old new r plain p e (plain_counts p.choices) refl told kept in
-      let s = searched ask.cycles c L lim p e old new r told kept in
+      let m = means (AnswerSet (program c)) (base_by ask.cycles (program c) c.atoms) L refl lim old new (Ok r) plain p e (plain_counts p.choices) refl (ap Ok told) kept in
+      let s = searched ask.cycles c L lim p e old new (Ok r) (ap Ok told) kept in
       record {
         refused = λ n i. (λ h. absurd (m.taken n i h), λ h. absurd (refused_not_accepted t (Plan (length old)) n i c h a));
         untouched = λ n i h. absurd (m.taken n i h);
-        meaning = λ d b. subst (λ (x : Contents). Meaning x.atoms (AnswerSet (program x)) lim old new r) (accepted_unique t (Plan (length old)) c d a b) m;
-        searching = λ d b. subst (λ (x : Contents). (p : Outcome) × Searched ask.cycles x lim old new r p) (accepted_unique t (Plan (length old)) c d a b) (p, s);
+        meaning = λ d b. subst (λ (x : Contents). Meaning x.atoms (AnswerSet (program x)) lim old new (Ok r)) (accepted_unique t (Plan (length old)) c d a b) m;
+        searching = λ d b. subst (λ (x : Contents). (p : Outcome) × Searched ask.cycles x lim old new (Ok r) p) (accepted_unique t (Plan (length old)) c d a b) (p, s);
       }
 
   -- of what the code found for its places
@@ -68,7 +68,7 @@ module _ (t : List ℤ) (ask : Ask) (old new : List ℕ) (r : Solved) (c : Conte
     same_problem : base_by ask.cycles (program_of t tb) tb.atoms ≡ base_by ask.cycles (program c) c.atoms
     same_problem = ap (λ (P : Program). base_by ask.cycles P tb.atoms) placed.rules ∙ ap (base_by ask.cycles (program c)) placed.atoms
 
-    pub plainly_found : (side : Side) → side.values ≡ replicate 256 0 → side.choices ≡ 0 → Sided ask.cycles t tb ask.limit side old new r → Plainly t ask old new r
+    pub plainly_found : (side : Side) → side.values ≡ replicate 256 0 → side.choices ≡ 0 → Sided ask.cycles t tb ask.limit side old new r → Plainly t ask old new (Ok r)
     plainly_found side blank none S =
         let q = theorems.search_ends (AnswerSet (program c)) (base_by ask.cycles (program c) c.atoms) L ask.limit plain in
         let p = q.0 in

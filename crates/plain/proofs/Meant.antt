@@ -10,6 +10,8 @@ use native.Mathlib.Omega.{arith}
 use Rattle.meaning.specs.Aggregates.{Atoms}
 use Rattle.meaning.specs.Answers.{AnswerSet}
 use Rattle.results.specs.declared.Counts.{Counts}
+use Rattle.std.specs.Prelude.{Result, Ok}
+use Rattle.results.specs.declared.Refusal.{Refusal}
 use Rattle.results.specs.declared.Solved.{Solved}
 use Rattle.results.specs.Results.{counts_of}
 use Rattle.search.specs.Search.{Problem, limit, Outcome, jump, plain, solve}
@@ -22,8 +24,8 @@ use Rattle.promises.proofs.Kept.{counts_by}
 use Rattle.plain.specs.Promise.{plain_counts, Searched}
 
 module _ (cycles : Bool) (c : Contents) (L : Laws (AnswerSet (program c)) (base_by cycles (program c) c.atoms)) (lim : ℕ)
-    (p : Outcome) (e : solve (base_by cycles (program c) c.atoms) plain lim ≡ some p) (old new : List ℕ) (r : Solved)
-    (told : r ≡ solved_by p.result (plain_counts p.choices)) (kept : new ≡ plan_after c.atoms p.result old) where
+    (p : Outcome) (e : solve (base_by cycles (program c) c.atoms) plain lim ≡ some p) (old new : List ℕ) (r : Result Solved Refusal)
+    (told : r ≡ Ok (solved_by p.result (plain_counts p.choices))) (kept : new ≡ plan_after c.atoms p.result old) where
   abbrev AS : Atoms → Type 0
   AS = AnswerSet (program c)
 

@@ -23,6 +23,7 @@ use Rattle.interpretation.specs.View.{cell_value, valued}
 use Rattle.interpretation.proofs.Laws.{cells_blank}
 use Rattle.levels.specs.Levels.{no_levels}
 use Rattle.results.specs.declared.Counts.{Counts}
+use Rattle.std.specs.Prelude.{Ok}
 use Rattle.results.specs.declared.Solved.{Solved}
 use Rattle.results.specs.declared.Solved.TheVariants as solved
 use Rattle.results.specs.Results.{kind_of, counts_of}
@@ -55,13 +56,13 @@ use Rattle.plain.proofs.Alone.{goes_alike, tries_alike}
 
 module _ (n lim : ℕ) (old new : List ℕ) (r : Solved) where
   told_nothing : (e : Tried) → Told n lim e old new r → (c : Counts) → r ≡ solved.Nothing c → (e ≡ nothing c.choices) × (new ≡ old)
-  told_nothing (engine.plan X k) T c z = absurd (let h : ◌≡◌ {A = ℕ} 0 1 = ap kind_of (sym T.result ∙ z) in omega arith)
-  told_nothing (nothing k) T c z = (ap (λ (s : Solved). nothing (counts_of s).choices) (sym T.result ∙ z), T.plan)
-  told_nothing halted T c z = absurd (let h : ◌≡◌ {A = ℕ} 2 1 = ap kind_of (sym T.result ∙ z) in omega arith)
+  told_nothing (engine.plan X k) T c z = absurd (let h : ◌≡◌ {A = ℕ} 0 1 = ap (λ (s : Solved). kind_of (Ok s)) (sym T.result ∙ z) in omega arith)
+  told_nothing (nothing k) T c z = (ap (λ (s : Solved). nothing (counts_of (Ok s)).choices) (sym T.result ∙ z), T.plan)
+  told_nothing halted T c z = absurd (let h : ◌≡◌ {A = ℕ} 2 1 = ap (λ (s : Solved). kind_of (Ok s)) (sym T.result ∙ z) in omega arith)
 
-  or_first : (e : Tried) (other : ℕ → Tried) → Told n lim e old new r → kind_of r ≢ 1 → or_other e other ≡ e
+  or_first : (e : Tried) (other : ℕ → Tried) → Told n lim e old new r → kind_of (Ok r) ≢ 1 → or_other e other ≡ e
   or_first (engine.plan X k) other T m = refl
-  or_first (nothing k) other T m = absurd (m (ap kind_of T.result))
+  or_first (nothing k) other T m = absurd (m (ap (λ (s : Solved). kind_of (Ok s)) T.result))
   or_first halted other T m = refl
 
 -- in either mode
@@ -127,7 +128,7 @@ module _ (cycles : Bool) (t : List ℤ) (tb : Table) (lim : ℕ) where
     -- by whether propagation met a conflict
     chosen : (b : Bool) → side.conflict ≡ b
         → ((u : ℕ) → undefined_to n (valued side.values) ≤ u → Told n lim (goes_on B lim (tries B lim u) (bare side.values) side.choices (verdict_by b)) old new r)
-        → (counts_of r).choices ≤ lim → Chosen cycles t tb lim side old new r
+        → (counts_of (Ok r)).choices ≤ lim → Chosen cycles t tb lim side old new r
     chosen b e f few = record {
       says = λ u h. subst (λ (c : Bool). Told n lim (goes_on B lim (tries B lim u) (bare side.values) side.choices (verdict_by c)) old new r) (sym e) (f u h);
       few = few;
@@ -199,7 +200,7 @@ module _ (cycles : Bool) (t : List ℤ) (tb : Table) (lim : ℕ) where
         first_then u = opened u h ∙ ap (λ (x : Tried). or_other x (λ m. tries B lim u (set_at p false (bare side.values)) m)) (first_side u)
 
         -- the first side ends the search
-        pub first_ends : kind_of first ≢ 1 → Chosen cycles t tb lim side old mid first
+        pub first_ends : kind_of (Ok first) ≢ 1 → Chosen cycles t tb lim side old mid first
         first_ends m =
             chosen side old mid first false z
             (λ u g.
@@ -217,7 +218,7 @@ module _ (cycles : Bool) (t : List ℤ) (tb : Table) (lim : ℕ) where
           as_was = (nothing_first (undefined_to n (valued side.values)) (omega arith)).1
 
           pub few_first : c.choices ≤ lim
-          few_first = subst (λ (x : Solved). (counts_of x).choices ≤ lim) i F.few
+          few_first = subst (λ (x : Solved). (counts_of (Ok x)).choices ≤ lim) i F.few
 
           pub other_side : (nay : Side) → Like (work_of nay) (steps.set p false no_levels (work_of side)) → nay.choices ≡ c.choices → (new : List ℕ) (second : Solved) → Sided cycles t tb lim nay mid new second
               → Chosen cycles t tb lim side old new second
@@ -248,7 +249,7 @@ module _ (cycles : Bool) (t : List ℤ) (tb : Table) (A : AtomsIn tb.atoms (prog
 
   module _ (old : List ℕ) (c : Counts) where
     -- what is told by the test's result
-    tests : (x : Tested) → said ≡ x → (new : List ℕ) (r : Solved) → Told tb.atoms lim (by_test X choices x) old new r → (counts_of r).choices ≤ lim → Tests cycles t tb lim values choices old new r
+    tests : (x : Tested) → said ≡ x → (new : List ℕ) (r : Solved) → Told tb.atoms lim (by_test X choices x) old new r → (counts_of (Ok r)).choices ≤ lim → Tests cycles t tb lim values choices old new r
     tests x z new r T h = record { says = subst (λ (y : Tested). Told tb.atoms lim (by_test X choices y) old new r) (sym z) T; few = h }
 
     pub passes_test : (k : ℕ) → said ≡ passed k → c ≡ plain_counts (choices + k) → (new : List ℕ) → new ≡ plan_with tb.atoms X old → Tests cycles t tb lim values choices old new (solved.Answer c)

@@ -11,6 +11,9 @@ use native.Mathlib.Omega.{arith}
 use lib.IntN.{ℤ}
 use lib.ListN.{length}
 use Rattle.meaning.proofs.Cond.{some_inj}
+use Rattle.std.specs.Prelude as code
+use Rattle.std.specs.Prelude.{Ok}
+use Rattle.results.specs.declared.Refusal.{Refusal}
 use Rattle.results.specs.declared.Solved.{Solved}
 use Rattle.results.specs.declared.Ask.{Ask}
 use Rattle.results.specs.declared.Counts.{Counts}
@@ -25,7 +28,7 @@ use Rattle.solver.specs.Solving.{Solving}
 use Rattle.plain.specs.Promise.{plain_counts, Plainly}
 
 module _ (t : List ℤ) (ask : Ask) (old : List ℕ) where
-  unique_by : DecidedBy ask.cycles t (Plan (length old)) → (new new' : List ℕ) (r r' : Solved) → Plainly t ask old new r → Plainly t ask old new' r' → (r ≡ r') × (new ≡ new')
+  unique_by : DecidedBy ask.cycles t (Plan (length old)) → (new new' : List ℕ) (r r' : code.Result Solved Refusal) → Plainly t ask old new r → Plainly t ask old new' r' → (r ≡ r') × (new ≡ new')
   unique_by (inl (f, h)) new new' r r' a b =
       let e = (a.refused (number_of f) (place_of f)).1 h in
       let i = (b.refused (number_of f) (place_of f)).1 h in
@@ -34,32 +37,32 @@ module _ (t : List ℤ) (ask : Ask) (old : List ℕ) where
       let x = a.searching c h in
       let y = b.searching c h in
       let e : x.0 ≡ y.0 = some_inj (sym x.1.plainly ∙ y.1.plainly) in (
-        x.1.result ∙ ap (λ (p : Outcome). solved_by p.result (plain_counts p.choices)) e ∙ sym y.1.result,
+        x.1.result ∙ ap (λ (p : Outcome). Ok (solved_by p.result (plain_counts p.choices))) e ∙ sym y.1.result,
         x.1.plan ∙ ap (λ (p : Outcome). plan_after c.atoms p.result old) e ∙ sym y.1.plan,
       )
 
-  pub plainly_unique : (new new' : List ℕ) (r r' : Solved) → Plainly t ask old new r → Plainly t ask old new' r' → (r ≡ r') × (new ≡ new')
+  pub plainly_unique : (new new' : List ℕ) (r r' : code.Result Solved Refusal) → Plainly t ask old new r → Plainly t ask old new' r' → (r ≡ r') × (new ≡ new')
   plainly_unique = unique_by (decided t (Plan (length old)))
 
 -- ---- beside `solver::solve`
 
-kind_by_lem : (x : Result) (k l : Counts) → kind_of (solved_by x k) ≡ kind_of (solved_by x l)
+kind_by_lem : (x : Result) (k l : Counts) → kind_of (Ok (solved_by x k)) ≡ kind_of (Ok (solved_by x l))
 kind_by_lem (answer X) k l = refl
 kind_by_lem no_answer k l = refl
 kind_by_lem limit k l = refl
 
 -- a result whose kind is not 2, limit, reports no limit
-not_limit : (r : Solved) (x : Result) (k : Counts) → r ≡ solved_by x k → kind_of r ≢ 2 → x ≢ limit
-not_limit r x k e n i = n (ap kind_of e ∙ ap (λ (y : Result). kind_of (solved_by y k)) i)
+not_limit : (r : code.Result Solved Refusal) (x : Result) (k : Counts) → r ≡ Ok (solved_by x k) → kind_of r ≢ 2 → x ≢ limit
+not_limit r x k e n i = n (ap kind_of e ∙ ap (λ (y : Result). kind_of (Ok (solved_by y k))) i)
 
 -- what the two results have in common: r of the plain engine, r' of the jumping one
-pub record Agree (r r' : Solved) (new new' : List ℕ) : Type 0 where
+pub record Agree (r r' : code.Result Solved Refusal) (new new' : List ℕ) : Type 0 where
   pub kind : kind_of r ≡ kind_of r'
   pub plan : new ≡ new'
   pub refusal : (n i : ℕ) → (report_of r ≡ refusal_report n i) ↔ (report_of r' ≡ refusal_report n i)
   pub choices : (counts_of r').choices ≤ (counts_of r).choices
 
-module _ (t : List ℤ) (cycles : Bool) (lim lim' : ℕ) (old new new' : List ℕ) (r r' : Solved) (a : Plainly t (record { cycles = cycles; limit = lim }) old new r)
+module _ (t : List ℤ) (cycles : Bool) (lim lim' : ℕ) (old new new' : List ℕ) (r r' : code.Result Solved Refusal) (a : Plainly t (record { cycles = cycles; limit = lim }) old new r)
     (b : Solving t (record { cycles = cycles; limit = lim' }) old new' r') where
   -- both are refused exactly where 01's table says so, in the mode of both
   refusals : (n i : ℕ) → (report_of r ≡ refusal_report n i) ↔ (report_of r' ≡ refusal_report n i)
@@ -82,11 +85,11 @@ module _ (t : List ℤ) (cycles : Bool) (lim lim' : ℕ) (old new new' : List �
       let y = b.searching c h in
       let o = y.0 in
       let w = x.1.alike (not_limit r p.result (plain_counts p.choices) x.1.result n) lim' o y.1.jumping (not_limit r' o.result (counted o) y.1.result m) in
-      let k : (counts_of r).choices ≡ p.choices = ap (λ (z : Solved). (counts_of z).choices) x.1.result ∙ ap (λ (z : Counts). z.choices) (counts_by p.result (plain_counts p.choices)) in
-      let l : (counts_of r').choices ≡ o.choices = ap (λ (z : Solved). (counts_of z).choices) y.1.result ∙ ap (λ (z : Counts). z.choices) (counts_by o.result (counted o)) in
+      let k : (counts_of r).choices ≡ p.choices = ap (λ (z : code.Result Solved Refusal). (counts_of z).choices) x.1.result ∙ ap (λ (z : Counts). z.choices) (counts_by p.result (plain_counts p.choices)) in
+      let l : (counts_of r').choices ≡ o.choices = ap (λ (z : code.Result Solved Refusal). (counts_of z).choices) y.1.result ∙ ap (λ (z : Counts). z.choices) (counts_by o.result (counted o)) in
       let q = w.1 in
       record {
-        kind = ap kind_of x.1.result ∙ ap (λ (z : Result). kind_of (solved_by z (plain_counts p.choices))) (sym w.0) ∙ kind_by_lem o.result (plain_counts p.choices) (counted o) ∙ sym (ap kind_of y.1.result);
+        kind = ap kind_of x.1.result ∙ ap (λ (z : Result). kind_of (Ok (solved_by z (plain_counts p.choices)))) (sym w.0) ∙ kind_by_lem o.result (plain_counts p.choices) (counted o) ∙ sym (ap kind_of y.1.result);
         plan = x.1.plan ∙ ap (λ (z : Result). plan_after c.atoms z old) (sym w.0) ∙ sym y.1.plan;
         refusal = refusals;
         choices = omega (arith, k, l, q);

@@ -5,7 +5,7 @@
 --   Tests              what the final test hands back
 --   Ready, Testable    what they ask: the table's places and lists, no more choices than the limit, and room for the plan
 -- Assumes nothing.
-use Rattle.std.specs.Prelude.{ℕ, ◌-◌, ◌≤◌, ◌<◌, ◌≡◌, Bool, List, ℤ, length}
+use Rattle.std.specs.Prelude.{ℕ, ◌-◌, ◌≤◌, ◌<◌, ◌≡◌, Bool, List, ℤ, length, Ok}
 use Rattle.interpretation.specs.State.{true_atoms, AllDefined}
 use Rattle.interpretation.specs.View.{valued}
 use Rattle.results.specs.declared.Solved.{Solved}
@@ -55,16 +55,16 @@ module _ (cycles : Bool) (t : List ℤ) (tb : Table) (lim : ℕ) where
   pub record Sided (s : Side) (old new : List ℕ) (r : Solved) : Type 0 where
     pub says : (u : ℕ) → undefined_to tb.atoms (valued s.values) < u
         → Told tb.atoms lim (tries (base_by cycles (program_of t tb) tb.atoms) lim u (bare s.values) s.choices) old new r
-    pub few : (counts_of r).choices ≤ lim
+    pub few : (counts_of (Ok r)).choices ≤ lim
 
   pub record Chosen (s : Side) (old new : List ℕ) (r : Solved) : Type 0 where
     pub says : (u : ℕ) → undefined_to tb.atoms (valued s.values) ≤ u
         → Told tb.atoms lim
         (goes_on (base_by cycles (program_of t tb) tb.atoms) lim (tries (base_by cycles (program_of t tb) tb.atoms) lim u) (bare s.values) s.choices (verdict_by s.conflict)) old new r
-    pub few : (counts_of r).choices ≤ lim
+    pub few : (counts_of (Ok r)).choices ≤ lim
 
   pub record Tests (values : List ℕ) (choices : ℕ) (old new : List ℕ) (r : Solved) : Type 0 where
     pub says : Told tb.atoms lim
         (by_test (true_atoms tb.atoms (valued values)) choices
         (test_by cycles (program_of t tb) tb.atoms (lim - choices) (true_atoms tb.atoms (valued values)))) old new r
-    pub few : (counts_of r).choices ≤ lim
+    pub few : (counts_of (Ok r)).choices ≤ lim

@@ -7,86 +7,78 @@ ghost use Rattle.plain.specs.Promise.{plain_counts, Plainly};
 ghost use Rattle.plain.specs.Plain.{Ready, Sided, Chosen, Testable, Tests};
 
 use heads::Lists;
-use interpretation::Choice;
 use judging::Buffer;
-use layout::Table;
+use layout::{Accepted, Table};
 use passes::Side;
-use results::{Ask, Solved};
+use results::{Ask, Refusal, Solved};
 use second_search::Tested;
-use table::Fault;
 
 mod passes;
 
 // The night's plan by the plain search: an answer, none or limit with the choices, and no skips; or a refusal. Only an answer writes, and only the bytes
 // of the table's own atoms. "Search: propagate", with no atom defined.
-pub fn solve(words: &[i32], ask: Ask, plan: &mut [u8]) -> Solved
+pub fn solve(words: &[i32], ask: Ask, plan: &mut [u8]) -> Result<Solved, Refusal>
     ensures { Plainly words.now ask plan.old plan.new result }
 {
     let mut lists = [0u16; heads::SIZE];
-    let judged = judging::judge_in(words, ask.cycles, Buffer::Plan(plan.len()), &mut lists);
-    let fault = judged.fault;
-    match fault {
-        Fault::Refused(f) => Solved::Refused(f),
-        Fault::Nothing => {
-            let tb = judged.table;
-            let start = Side {
-                values: [0u8; 256],
-                choices: 0,
-                changed: false,
-                conflict: false,
-            };
-            let side = passes::propagate(words, tb, &lists, start);
-            choose(words, tb, ask, &lists, side, plan)
-        }
-    }
+    let places = judging::judge_in(words, ask.cycles, Buffer::Plan(plan.len()), &mut lists)?;
+    let t = Accepted { words, places };
+    let start = Side {
+        values: [0u8; 256],
+        choices: 0,
+        changed: false,
+        conflict: false,
+    };
+    let side = passes::propagate(&t, &lists, start);
+    Ok(choose(&t, ask, &lists, side, plan))
 }
 
 // Opens a choice: "at the limit, end with limit; else open one more level with the lowest undefined atom true .. this is one choice". A side that ends in a
 // conflict holds nothing; then "that atom becomes false", and this side is tried.
 #[cycle(choose_try_side)]
-fn choose(t: &[i32], tb: Table, ask: Ask, lists: &Lists, side: Side, plan: &mut [u8]) -> Solved
-    requires { Ready t.now tb lists.now ask.limit side plan.old }
-    ensures { Chosen ask.cycles t.now tb ask.limit side plan.old plan.new result }
+fn choose(t: &Accepted, ask: Ask, lists: &Lists, side: Side, plan: &mut [u8]) -> Solved
+    requires { Ready t.now.words.now t.now.places lists.now ask.limit side plan.old }
+    ensures { Chosen ask.cycles t.now.words.now t.now.places ask.limit side plan.old plan.new result }
 {
     if side.conflict {
         return Solved::Nothing(counted(side.choices));
     }
-    if let Choice::Atom(p) = second_search::lowest_undefined(&side.values, tb.atoms) {
+    if let Some(p) = interpretation::lowest_undefined(&side.values, t.places.atoms) {
         if ask.limit <= side.choices {
             return Solved::Limit(counted(side.choices));
         }
-        let first = try_side(t, tb, ask, lists, side.on(p, true, side.choices + 1), plan);
+        let first = try_side(t, ask, lists, side.on(p, true, side.choices + 1), plan);
         let Solved::Nothing(n) = first else {
             return first;
         };
         let sofar = n.choices;
-        return try_side(t, tb, ask, lists, side.on(p, false, sofar), plan);
+        return try_side(t, ask, lists, side.on(p, false, sofar), plan);
     }
-    tested(t, tb, ask, lists, side, plan)
+    tested(t, ask, lists, side, plan)
 }
 
 // Tries a side of a choice: ".. then propagate again".
 #[cycle(choose_try_side)]
-fn try_side(t: &[i32], tb: Table, ask: Ask, lists: &Lists, side: Side, plan: &mut [u8]) -> Solved
-    requires { Ready t.now tb lists.now ask.limit side plan.old × (side.conflict ≡ false) }
-    ensures { Sided ask.cycles t.now tb ask.limit side plan.old plan.new result }
+fn try_side(t: &Accepted, ask: Ask, lists: &Lists, side: Side, plan: &mut [u8]) -> Solved
+    requires { Ready t.now.words.now t.now.places lists.now ask.limit side plan.old × (side.conflict ≡ false) }
+    ensures { Sided ask.cycles t.now.words.now t.now.places ask.limit side plan.old plan.new result }
 {
-    let tried = passes::propagate(t, tb, lists, side);
-    choose(t, tb, ask, lists, tried, plan)
+    let tried = passes::propagate(t, lists, side);
+    choose(t, ask, lists, tried, plan)
 }
 
 // "If there is no conflict and all atoms are defined, test foundedness .. All true atoms added: answer. If not: conflict". Where head cycles are taken the test
 // is the second search of request 14, whose choices are counted here and against the limit. An answer is the plan.
-fn tested(t: &[i32], tb: Table, ask: Ask, lists: &Lists, side: Side, plan: &mut [u8]) -> Solved
-    requires { Testable t.now tb lists.now ask.limit side.values side.choices plan.old }
-    ensures { Tests ask.cycles t.now tb ask.limit side.values side.choices plan.old plan.new result }
+fn tested(t: &Accepted, ask: Ask, lists: &Lists, side: Side, plan: &mut [u8]) -> Solved
+    requires { Testable t.now.words.now t.now.places lists.now ask.limit side.values side.choices plan.old }
+    ensures { Tests ask.cycles t.now.words.now t.now.places ask.limit side.values side.choices plan.old plan.new result }
 {
     let mut room = [0u32; Table::RULES];
     let left = ask.limit - side.choices;
-    let found = turns::test(t, tb, ask.cycles, lists, &side.values, left, &mut room);
+    let found = turns::test(t, ask.cycles, lists, &side.values, left, &mut room);
     match found {
         Tested::Passed(spent) => {
-            solver::plans::write(side.values, tb.atoms, plan);
+            solver::plans::write(side.values, t.places.atoms, plan);
             Solved::Answer(counted(side.choices + spent))
         }
         Tested::Failed(spent) => Solved::Nothing(counted(side.choices + spent)),

@@ -3,16 +3,17 @@
 ghost use Rattle.std.specs.Prelude.{◌≡◌, false, ◌≤◌, suc};
 ghost use Rattle.std.proofs.Math.Option.{some};
 ghost use Rattle.levels.specs.Levels.{no_levels};
-ghost use Rattle.layout.specs.Layout.{Laid, RuleLies, rule_at, program_of};
+ghost use Rattle.layout.specs.Accepted.{program_in, rule_in, RuleIn};
 ghost use Rattle.heads.specs.Heads.{Listed};
 ghost use Rattle.steps.specs.Steps.{set, step_e, rule_pass, atom_pass, passes};
 ghost use Rattle.plain.specs.Passes.{work_of, Like, Comes};
 
 use heads::Lists;
-use layout::Table;
+use layout::Accepted;
 
 // A side of a choice: each atom's value (0 undefined, 1 true, 2 false; atom p at index p - 1) and the choices opened so far; of the pass at hand, whether it
 // has changed a value, and whether it has met a conflict.
+// Stays: two flags: a pass may change values and then meet a conflict, and `Comes` tells of both.
 #[derive(Clone, Copy)]
 pub struct Side {
     pub values: [u8; 256],
@@ -44,17 +45,17 @@ impl Side {
 }
 
 // "Passes repeat until one changes nothing or a conflict ends it."
-pub fn propagate(t: &[i32], tb: Table, lists: &Lists, mut side: Side) -> Side
-    requires { Laid t.now tb × Listed t.now tb lists.now × (side.conflict ≡ false) }
-    ensures { Comes side result (passes (program_of t.now tb) tb.atoms (suc tb.atoms) (work_of side)) }
+pub fn propagate(t: &Accepted, lists: &Lists, mut side: Side) -> Side
+    requires { Listed t.now.words.now t.now.places lists.now × (side.conflict ≡ false) }
+    ensures { Comes side result (passes (program_in t.now) t.now.places.atoms (suc t.now.places.atoms) (work_of side)) }
 {
     loop {
         side.changed = false;
-        side = rule_steps(t, tb, side);
+        side = rule_steps(t, side);
         if side.conflict {
             return side;
         }
-        side = atom_steps(t, tb, lists, side);
+        side = atom_steps(t, lists, side);
         if side.conflict {
             return side;
         }
@@ -65,14 +66,13 @@ pub fn propagate(t: &[i32], tb: Table, lists: &Lists, mut side: Side) -> Side
 }
 
 // "One pass takes rules 1 to M with steps a to c": a rule that already holds asks nothing.
-fn rule_steps(t: &[i32], tb: Table, mut side: Side) -> Side
-    requires { Laid t.now tb × (side.conflict ≡ false) }
-    ensures { Comes side result (rule_pass (program_of t.now tb) (work_of side)) }
+fn rule_steps(t: &Accepted, mut side: Side) -> Side
+    requires { (side.conflict ≡ false) }
+    ensures { Comes side result (rule_pass (program_in t.now) (work_of side)) }
 {
-    let mut at = tb.first;
-    let mut left = tb.rules;
-    while 0 < left {
-        let step = rules::demand(t, tb, at, &side.values);
+    let mut at = t.places.first;
+    for _rule in 0..t.places.rules {
+        let step = rules::demand(t, at, &side.values);
         match step {
             rules::Step::Nothing => {}
             // a. Body true, head all false: conflict.
@@ -84,21 +84,18 @@ fn rule_steps(t: &[i32], tb: Table, mut side: Side) -> Side
             // c. Head all false, exactly one body literal undefined, the others true: it becomes false.
             rules::Step::Set(p, v) => side = side.set(p, v),
         }
-        at = layout::past_rule(t, at);
-        left -= 1;
+        at = layout::past_rule(t.words, at);
     }
     side
 }
 
 // ".. then atoms 1 to N with steps d and e".
-fn atom_steps(t: &[i32], tb: Table, lists: &Lists, mut side: Side) -> Side
-    requires { Laid t.now tb × Listed t.now tb lists.now × (side.conflict ≡ false) }
-    ensures { Comes side result (atom_pass (program_of t.now tb) tb.atoms 1 (work_of side)) }
+fn atom_steps(t: &Accepted, lists: &Lists, mut side: Side) -> Side
+    requires { Listed t.now.words.now t.now.places lists.now × (side.conflict ≡ false) }
+    ensures { Comes side result (atom_pass (program_in t.now) t.now.places.atoms 1 (work_of side)) }
 {
-    let n = tb.atoms;
-    let mut p: usize = 1;
-    while p <= n {
-        let ask = support::asked(t, tb, lists, p, &side.values);
+    for p in 1..t.places.atoms + 1 {
+        let ask = support::asked(t, lists, p, &side.values);
         match ask {
             support::Ask::Nothing => {}
             // d. No rule supports p: conflict if p is true ..
@@ -109,23 +106,19 @@ fn atom_steps(t: &[i32], tb: Table, lists: &Lists, mut side: Side) -> Side
             // .. if undefined, p becomes false.
             support::Ask::Unset => side = side.set(p, false),
             // e. p is true and one rule supports it.
-            support::Ask::Sole(at) => side = forced_by(t, tb, at, side),
+            support::Ask::Sole(at) => side = forced_by(t, at, side),
         }
-        p += 1;
     }
     side
 }
 
 // e. "that rule's other undefined head atoms become false, then its positive body atoms still undefined true, then its negated atoms still undefined false".
-fn forced_by(t: &[i32], tb: Table, at: usize, mut side: Side) -> Side
-    requires { Laid t.now tb × RuleLies tb.atoms tb.aggregates t.now at }
-    ensures { Comes side result (step_e (some (rule_at t.now at)) no_levels (work_of side)) }
+fn forced_by(t: &Accepted, at: usize, mut side: Side) -> Side
+    requires { RuleIn t.now at }
+    ensures { Comes side result (step_e (some (rule_in t.now at)) no_levels (work_of side)) }
 {
-    loop {
-        let next = support::forced(t, tb, at, &side.values);
-        match next {
-            support::Next::Nothing => return side,
-            support::Next::Set(p, v) => side = side.set(p, v),
-        }
+    while let Some((p, v)) = support::forced(t, at, &side.values) {
+        side = side.set(p, v);
     }
+    side
 }

@@ -7,16 +7,19 @@ use mathlib.Core.Logic.{◌≢◌, ◌⊎◌, inl, inr}
 use mathlib.Core.Bool.{Bool, true}
 use mathlib.Core.Option.{some}
 use mathlib.Core.List.{List}
+use Rattle.std.specs.Prelude.{Result, Ok}
 use Prim.Native.Nat.{ℕ, suc, ◌≤◌}
 use native.Mathlib.Omega.{arith}
 use Rattle.meaning.specs.Aggregates.{Atoms}
+use Rattle.results.specs.declared.Refusal.{Refusal}
 use Rattle.results.specs.declared.Counts.{Counts}
 use Rattle.results.specs.declared.Solved.{Solved}
 use Rattle.results.specs.declared.Solved.TheVariants as solved
 use Rattle.results.specs.Results.{Report, counts_of, report_of, refusal_report}
 use Rattle.levels.specs.Levels.{Levels}
 use Rattle.interpretation.specs.State.{Interpretation}
-use Rattle.search.specs.Search.{Problem, Result, answer, no_answer, limit, Outcome, Mode, jump, plain, start, solve}
+use Rattle.search.specs.Search as defined
+use Rattle.search.specs.Search.{Problem, answer, no_answer, limit, Outcome, Mode, jump, plain, start, solve}
 use Rattle.search.specs.Laws.{DeadBy, Laws}
 use Rattle.search.proofs.Theorems as theorems
 use Rattle.search.proofs.Skips.{skips≤choices}
@@ -24,51 +27,51 @@ use Rattle.search.proofs.Limit.{here}
 use Rattle.search.proofs.Passes.{solve_passes, passes_greatest}
 use Rattle.promises.specs.Promises.{FirstWritten, Empty, Meaning, solved_by, counted, reported, plan_after, Beside, Searching}
 
-pub counts_by : (x : Result) (k : Counts) → counts_of (solved_by x k) ≡ k
+pub counts_by : (x : defined.Result) (k : Counts) → counts_of (Ok (solved_by x k)) ≡ k
 counts_by (answer X) k = refl
 counts_by no_answer k = refl
 counts_by limit k = refl
 
-module _ (AS : Atoms → Type 0) (P : Problem) (L : Laws AS P) (first : P.first ≡ true) (lim : ℕ) (old new : List ℕ) (r : Solved) where
+module _ (AS : Atoms → Type 0) (P : Problem) (L : Laws AS P) (first : P.first ≡ true) (lim : ℕ) (old new : List ℕ) (r : Result Solved Refusal) where
   -- whatever other counts are told with the search's choices
-  module _ (mode : Mode) (o : Outcome) (e : solve P mode lim ≡ some o) (counts : Counts) (same : counts.choices ≡ o.choices) (told : r ≡ solved_by o.result counts)
+  module _ (mode : Mode) (o : Outcome) (e : solve P mode lim ≡ some o) (counts : Counts) (same : counts.choices ≡ o.choices) (told : r ≡ Ok (solved_by o.result counts))
       (kept : new ≡ plan_after P.atoms o.result old) where
     -- by the result of the search
-    told_as : (x : Result) → o.result ≡ x → r ≡ solved_by x counts
-    told_as x i = told ∙ ap (λ (y : Result). solved_by y counts) i
+    told_as : (x : defined.Result) → o.result ≡ x → r ≡ Ok (solved_by x counts)
+    told_as x i = told ∙ ap (λ (y : defined.Result). Ok (solved_by y counts)) i
 
-    kept_as : (x : Result) → o.result ≡ x → new ≡ plan_after P.atoms x old
-    kept_as x i = kept ∙ ap (λ (y : Result). plan_after P.atoms y old) i
+    kept_as : (x : defined.Result) → o.result ≡ x → new ≡ plan_after P.atoms x old
+    kept_as x i = kept ∙ ap (λ (y : defined.Result). plan_after P.atoms y old) i
 
-    answers : (k : Counts) → r ≡ solved.Answer k → (x : Result) → o.result ≡ x → FirstWritten P.atoms AS old new
+    answers : (k : Counts) → r ≡ Ok (solved.Answer k) → (x : defined.Result) → o.result ≡ x → FirstWritten P.atoms AS old new
     answers k h (answer X) i =
         let t = theorems.answer_is_first AS P L lim mode o e first X i in
         record { atoms = X; is_answer = t.0; first = t.1; written = kept_as (answer X) i }
     answers k h no_answer i = absurd (let u = told_as no_answer i in let z : ◌≡◌ {A = ℕ} 0 1 = cc in omega arith)
     answers k h limit i = absurd (let u = told_as limit i in let z : ◌≡◌ {A = ℕ} 0 1 = cc in omega arith)
 
-    nothing : (k : Counts) → r ≡ solved.Nothing k → (x : Result) → o.result ≡ x → Empty P.atoms AS × (new ≡ old)
+    nothing : (k : Counts) → r ≡ Ok (solved.Nothing k) → (x : defined.Result) → o.result ≡ x → Empty P.atoms AS × (new ≡ old)
     nothing k h (answer X) i = absurd (let u = told_as (answer X) i in let z : ◌≡◌ {A = ℕ} 0 1 = cc in omega arith)
     nothing k h no_answer i = (theorems.none_means_none AS P L lim mode o e i, kept_as no_answer i)
     nothing k h limit i = absurd (let u = told_as limit i in let z : ◌≡◌ {A = ℕ} 0 1 = cc in omega arith)
 
-    limited : (k : Counts) → r ≡ solved.Limit k → (x : Result) → o.result ≡ x → (k.choices ≡ lim) × (new ≡ old)
+    limited : (k : Counts) → r ≡ Ok (solved.Limit k) → (x : defined.Result) → o.result ≡ x → (k.choices ≡ lim) × (new ≡ old)
     limited k h (answer X) i = absurd (let u = told_as (answer X) i in let z : ◌≡◌ {A = ℕ} 0 1 = cc in omega arith)
     limited k h no_answer i = absurd (let u = told_as no_answer i in let z : ◌≡◌ {A = ℕ} 0 1 = cc in omega arith)
     limited k h limit i =
-        let u : solved.Limit k ≡ solved.Limit counts = sym h ∙ told_as limit i in
-        (ap (λ (x : Solved). (counts_of x).choices) u ∙ same ∙ theorems.limit_is_reached AS P L lim mode o e i, kept_as limit i)
+        let u : ◌≡◌ {A = Result Solved Refusal} (Ok (solved.Limit k)) (Ok (solved.Limit counts)) = sym h ∙ told_as limit i in
+        (ap (λ (x : Result Solved Refusal). (counts_of x).choices) u ∙ same ∙ theorems.limit_is_reached AS P L lim mode o e i, kept_as limit i)
 
-    found : (X : Atoms) → AS X → ((k : Counts) → r ≢ solved.Limit k) → (x : Result) → o.result ≡ x → (k : Counts) × (r ≡ solved.Answer k)
+    found : (X : Atoms) → AS X → ((k : Counts) → r ≢ Ok (solved.Limit k)) → (x : defined.Result) → o.result ≡ x → (k : Counts) × (r ≡ Ok (solved.Answer k))
     found X a n (answer Z) i = (counts, told_as (answer Z) i)
     found X a n no_answer i = absurd (theorems.none_means_none AS P L lim mode o e i X a)
     found X a n limit i = absurd (n counts (told_as limit i))
 
     -- what is refused has the kind of a refusal
-    kind_as : (m k : ℕ) → report_of r ≡ refusal_report m k → (x : Result) → o.result ≡ x → 3 ≡ (report_of (solved_by x counts)).kind
-    kind_as m k h x i = sym (ap (λ (y : Report). y.kind) h) ∙ ap (λ (y : Solved). (report_of y).kind) (told_as x i)
+    kind_as : (m k : ℕ) → report_of r ≡ refusal_report m k → (x : defined.Result) → o.result ≡ x → 3 ≡ (report_of (Ok (solved_by x counts))).kind
+    kind_as m k h x i = sym (ap (λ (y : Report). y.kind) h) ∙ ap (λ (y : Result Solved Refusal). (report_of y).kind) (told_as x i)
 
-    taken : (m k : ℕ) → report_of r ≡ refusal_report m k → (x : Result) → o.result ≡ x → ⊥
+    taken : (m k : ℕ) → report_of r ≡ refusal_report m k → (x : defined.Result) → o.result ≡ x → ⊥
     taken m k h (answer X) i = let z = kind_as m k h (answer X) i in omega arith
     taken m k h no_answer i = let z = kind_as m k h no_answer i in omega arith
     taken m k h limit i = let z = kind_as m k h limit i in omega arith
@@ -84,7 +87,7 @@ module _ (AS : Atoms → Type 0) (P : Problem) (L : Laws AS P) (first : P.first 
 
   -- where every propagation takes a pass, and none more than N + 1
   module _ (taken : (i : Interpretation) (r : ℕ → Levels) → (1 ≤ (P.propagate i r).passes) × ((P.propagate i r).passes ≤ suc P.atoms))
-      (o : Outcome) (e : solve P jump lim ≡ some o) (told : r ≡ reported o) (kept : new ≡ plan_after P.atoms o.result old) where
+      (o : Outcome) (e : solve P jump lim ≡ some o) (told : r ≡ Ok (reported o)) (kept : new ≡ plan_after P.atoms o.result old) where
     counts : counts_of r ≡ counted o
     counts = ap counts_of told ∙ counts_by o.result (counted o)
 

@@ -7,16 +7,18 @@
 --   ListBeside           against the plain listing with a limit L
 --   ListSearching        demand 3: result, rows, choices, skips and passes of the defined jumping listing, beside the plain one with every limit from the call's on
 -- Assumes nothing.
-use Rattle.std.specs.Prelude.{◌≡◌, ◌≢◌, List, [], ◌∷◌, ◌++◌, ℕ, suc, ◌-◌, ◌*◌, ◌/◌, ◌≤◌, length, drop, replicate}
+use Rattle.std.specs.Prelude.{◌≡◌, ◌≢◌, List, [], ◌∷◌, ◌++◌, ℕ, suc, ◌-◌, ◌*◌, ◌/◌, ◌≤◌, length, drop, replicate, Result, Ok}
 use Rattle.std.proofs.Math.Option.{some}
 use Rattle.meaning.specs.Lists.{◌∈◌}
 use Rattle.meaning.specs.Aggregates.{Atoms}
 use Rattle.meaning.specs.Answers.{Before}
+use Rattle.results.specs.declared.Refusal.{Refusal}
 use Rattle.results.specs.declared.Counts.{Counts}
 use Rattle.results.specs.declared.Listed.{Listed}
 use Rattle.results.specs.declared.Listed.TheVariants as listed
 use Rattle.results.specs.Results.{list_report_of, refusal_listing, listed_of, list_counts}
-use Rattle.search.specs.Search.{Problem, Result, answer, no_answer, limit, jump, plain}
+use Rattle.search.specs.Search as defined
+use Rattle.search.specs.Search.{Problem, answer, no_answer, limit, jump, plain}
 use Rattle.search.specs.Laws.{Left, Dead}
 use Rattle.search.specs.Listing as listing
 use Rattle.search.specs.Listing.{Jumped, list_all, Rising, Once}
@@ -41,7 +43,7 @@ rooms old = length old / 256
 
 -- ---- demand 2: `plans` are the plans that are listed, in order
 
-pub record AllPlans (n : ℕ) (AS : Atoms → Type 0) (lim : ℕ) (old new : List ℕ) (r : Listed) (plans : List Atoms) : Type 0 where
+pub record AllPlans (n : ℕ) (AS : Atoms → Type 0) (lim : ℕ) (old new : List ℕ) (r : Result Listed Refusal) (plans : List Atoms) : Type 0 where
   -- row i holds the i-th plan, "each listed row whole", and the number listed is their number
   pub rows : new ≡ rows_with n plans old
   pub number : listed_of r ≡ length plans
@@ -53,17 +55,17 @@ pub record AllPlans (n : ℕ) (AS : Atoms → Type 0) (lim : ℕ) (old new : Lis
   -- "full or limit leaves the first plans, in order": an answer set that is not listed comes after each of them
   pub firsts : (X : Atoms) → X ∈ plans → (Z : Atoms) → AS Z → (Z ∈ plans → ⊥) → Before n X Z
   -- complete: every answer set is listed
-  pub complete : (m : ℕ) (k : Counts) → r ≡ listed.Complete m k → (X : Atoms) → AS X → X ∈ plans
+  pub complete : (m : ℕ) (k : Counts) → r ≡ Ok (listed.Complete m k) → (X : Atoms) → AS X → X ∈ plans
   -- "Full means that the search found one more than there are rows"
-  pub full : (m : ℕ) (k : Counts) → r ≡ listed.Full m k → (m ≡ rooms old) × ((X : Atoms) × AS X × (X ∈ plans → ⊥))
+  pub full : (m : ℕ) (k : Counts) → r ≡ Ok (listed.Full m k) → (m ≡ rooms old) × ((X : Atoms) × AS X × (X ∈ plans → ⊥))
   -- limit: only with as many choices as the limit allows
-  pub limited : (m : ℕ) (k : Counts) → r ≡ listed.Limit m k → k.choices ≡ lim
+  pub limited : (m : ℕ) (k : Counts) → r ≡ Ok (listed.Limit m k) → k.choices ≡ lim
   -- an accepted table is not refused
   pub taken : (m i : ℕ) → list_report_of r ≢ refusal_listing m i
 
 -- ---- how a result reports an outcome of the defined listing: its result is that of the search for one plan more than those listed
 
-abbrev pub listed_by : Result → ℕ → Counts → Listed
+abbrev pub listed_by : defined.Result → ℕ → Counts → Listed
 listed_by (answer X) m k = listed.Full m k
 listed_by no_answer m k = listed.Complete m k
 listed_by limit m k = listed.Limit m k
@@ -73,7 +75,7 @@ listed_as o = listed_by o.result (length o.plans) (record { choices = o.choices;
 
 -- ---- demand 3: o is what the defined jumping listing ends with
 
-module _ (AS : Atoms → Type 0) (P : Problem) (r : Listed) (o : listing.Listed) where
+module _ (AS : Atoms → Type 0) (P : Problem) (r : Result Listed Refusal) (o : listing.Listed) where
   -- beside the plain listing with the limit L into as many rows, which ends with `ends`
   pub record ListBeside (room L : ℕ) : Type 0 where
     pub ends : listing.Listed
@@ -86,7 +88,7 @@ module _ (AS : Atoms → Type 0) (P : Problem) (r : Listed) (o : listing.Listed)
   pub record ListSearching (lim : ℕ) (old new : List ℕ) : Type 0 where
     pub jumping : list_all P jump lim (rooms old) ≡ some o
     -- the number listed, the kind, the choices, the skips, the passes and the rows are those of the defined listing
-    pub result : r ≡ listed_as o
+    pub result : r ≡ Ok (listed_as o)
     pub rows : new ≡ rows_with P.atoms o.plans old
     -- the plain listing with the call's limit or any larger one
     pub beside : (L : ℕ) → lim ≤ L → ListBeside (rooms old) L

@@ -8,16 +8,18 @@
 --   Searching             demand 3: result, plan, choices and skips of the defined jumping search, beside the plain one with every limit from the call's on; and
 --                         request 11: the passes
 -- Assumes nothing.
-use Rattle.std.specs.Prelude.{◌≡◌, ◌≢◌, List, ℕ, suc, ◌≤◌, length}
+use Rattle.std.specs.Prelude.{◌≡◌, ◌≢◌, List, ℕ, suc, ◌≤◌, length, Result, Ok}
 use Rattle.std.proofs.Math.Option.{some}
 use Rattle.meaning.specs.Lists.{◌∈◌}
 use Rattle.meaning.specs.Aggregates.{Atoms}
 use Rattle.meaning.specs.Answers.{First}
+use Rattle.results.specs.declared.Refusal.{Refusal}
 use Rattle.results.specs.declared.Counts.{Counts}
 use Rattle.results.specs.declared.Solved.{Solved}
 use Rattle.results.specs.declared.Solved.TheVariants as solved
 use Rattle.results.specs.Results.{counts_of, report_of, refusal_report}
-use Rattle.search.specs.Search.{Problem, Result, answer, no_answer, limit, Branch, Outcome, jump, plain, solve}
+use Rattle.search.specs.Search as defined
+use Rattle.search.specs.Search.{Problem, answer, no_answer, limit, Branch, Outcome, jump, plain, solve}
 use Rattle.search.specs.Laws.{Dead}
 use Rattle.promises.specs.Plans.{plan_with}
 
@@ -34,21 +36,21 @@ module _ (n : ℕ) (AS : Atoms → Type 0) where
   abbrev pub Empty : Type 0
   Empty = (X : Atoms) → AS X → ⊥
 
-  pub record Meaning (lim : ℕ) (old new : List ℕ) (r : Solved) : Type 0 where
+  pub record Meaning (lim : ℕ) (old new : List ℕ) (r : Result Solved Refusal) : Type 0 where
     -- an answer is an answer set, the first in 01's order, and it is what the plan bytes say
-    pub answers : (k : Counts) → r ≡ solved.Answer k → FirstWritten old new
+    pub answers : (k : Counts) → r ≡ Ok (solved.Answer k) → FirstWritten old new
     -- none: there is no answer set, and "every other result keeps the entire buffer"
-    pub none : (k : Counts) → r ≡ solved.Nothing k → Empty × (new ≡ old)
+    pub none : (k : Counts) → r ≡ Ok (solved.Nothing k) → Empty × (new ≡ old)
     -- limit: only with as many choices as the limit allows, and the whole buffer is as it was
-    pub limited : (k : Counts) → r ≡ solved.Limit k → (k.choices ≡ lim) × (new ≡ old)
+    pub limited : (k : Counts) → r ≡ Ok (solved.Limit k) → (k.choices ≡ lim) × (new ≡ old)
     -- where there is an answer set and no limit is met, there is an answer
-    pub found : (X : Atoms) → AS X → ((k : Counts) → r ≢ solved.Limit k) → (k : Counts) × (r ≡ solved.Answer k)
+    pub found : (X : Atoms) → AS X → ((k : Counts) → r ≢ Ok (solved.Limit k)) → (k : Counts) × (r ≡ Ok (solved.Answer k))
     -- an accepted table is not refused
     pub taken : (m i : ℕ) → report_of r ≢ refusal_report m i
 
 -- ---- how a result reports an outcome of the defined search
 
-abbrev pub solved_by : Result → Counts → Solved
+abbrev pub solved_by : defined.Result → Counts → Solved
 solved_by (answer X) k = solved.Answer k
 solved_by no_answer k = solved.Nothing k
 solved_by limit k = solved.Limit k
@@ -61,14 +63,14 @@ abbrev pub reported : Outcome → Solved
 reported o = solved_by o.result (counted o)
 
 -- "Every other result keeps the entire buffer"
-abbrev pub plan_after : ℕ → Result → List ℕ → List ℕ
+abbrev pub plan_after : ℕ → defined.Result → List ℕ → List ℕ
 plan_after n (answer X) old = plan_with n X old
 plan_after n no_answer old = old
 plan_after n limit old = old
 
 -- ---- demand 3: o is what the defined jumping search ends with
 
-module _ (AS : Atoms → Type 0) (P : Problem) (r : Solved) (o : Outcome) where
+module _ (AS : Atoms → Type 0) (P : Problem) (r : Result Solved Refusal) (o : Outcome) where
   -- beside the plain search with the limit L, which ends with `ends`
   pub record Beside (L : ℕ) : Type 0 where
     pub ends : Outcome
@@ -81,7 +83,7 @@ module _ (AS : Atoms → Type 0) (P : Problem) (r : Solved) (o : Outcome) where
   pub record Searching (lim : ℕ) (old new : List ℕ) : Type 0 where
     pub jumping : solve P jump lim ≡ some o
     -- "Choices and skips are those of the defined jumping search", and so are the kind of the result, the plan and the passes
-    pub result : r ≡ reported o
+    pub result : r ≡ Ok (reported o)
     pub plan : new ≡ plan_after P.atoms o.result old
     -- the plain search with the call's limit or any larger one
     pub beside : (L : ℕ) → lim ≤ L → Beside L

@@ -30,7 +30,7 @@ use Rattle.rules.specs.declared.Step.TheVariants.{Nothing, Conflict, Set}
 use Rattle.rules.specs.Demand.{demand_of, did}
 use Rattle.support.specs.declared.Ask.{Ask}
 use Rattle.support.specs.declared.Ask.TheVariants as ask
-use Rattle.support.specs.declared.Next.TheVariants as next
+use Rattle.std.specs.Prelude.{Some, None}
 use Rattle.support.specs.Asking.{ask_of, blame_of, forced_of, did_ask}
 use Rattle.propagation.specs.Propagation.{work}
 use Rattle.literals.proofs.Alone.{reasons_alone}
@@ -134,13 +134,13 @@ module _ (it : Interpretation) (reasons : List (List ℕ)) (b : Bool) where
       atom_refutes e = atom_does ask.Conflict e ∙ ap (λ (C : Levels). refuted C (work it reasons b)) (sym because_whole)
 
       -- what step e sets is a change, whether or not the pass had changed something before
-      marked : (r : Rule) (R : Levels) (q : ℕ) (v : Bool) → forced_of (cells it.values it.records) r ≡ next.Set q v → step_e (some r) R (work it reasons b) ≡ step_e (some r) R (work it reasons true)
+      marked : (r : Rule) (R : Levels) (q : ℕ) (v : Bool) → forced_of (cells it.values it.records) r ≡ Some (q, v) → step_e (some r) R (work it reasons b) ≡ step_e (some r) R (work it reasons true)
       marked r R q v e = forced_set r R (work it reasons b) q v e ∙ sym (forced_set r R (work it reasons true) q v e)
 
       -- all that step e sets at the rule at i is set
-      pub atom_forces : (i q : ℕ) (v : Bool) (it' : Interpretation) (rs : List (List ℕ)) → ask_of t tb (valued it.values) p ≡ ask.Sole i → forced_of (cells it.values it.records) (rule_at t i) ≡ next.Set q v
+      pub atom_forces : (i q : ℕ) (v : Bool) (it' : Interpretation) (rs : List (List ℕ)) → ask_of t tb (valued it.values) p ≡ ask.Sole i → forced_of (cells it.values it.records) (rule_at t i) ≡ Some (q, v)
           → Kept (view it) (view it') → length rs ≡ 256 → step_e (some (rule_at t i)) (row w) (work it' rs true) ≡ step_e (some (rule_at t i)) (row w) (work it reasons true)
-          → forced_of (cells it'.values it'.records) (rule_at t i) ≡ next.Nothing → Stepped it (step_atom (program_of t tb) p (work it reasons b)) it' rs true
+          → forced_of (cells it'.values it'.records) (rule_at t i) ≡ None → Stepped it (step_atom (program_of t tb) p (work it reasons b)) it' rs true
       atom_forces i q v it' rs e g k n z h = record {
         long = n;
         kept = k;

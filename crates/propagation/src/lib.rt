@@ -7,26 +7,25 @@ ghost use Rattle.std.specs.Prelude.{◌≡◌, ◌≤◌};
 ghost use Rattle.levels.specs.Levels.{union};
 ghost use Rattle.levels.specs.View.{row, rows};
 ghost use Rattle.interpretation.specs.View.{valued};
-ghost use Rattle.layout.specs.Layout.{Laid, program_of};
+ghost use Rattle.layout.specs.Accepted.{program_in};
 ghost use Rattle.heads.specs.Heads.{Listed};
 ghost use Rattle.support.specs.Asking.{blame_of};
 
 use heads::Lists;
-use layout::Table;
+use layout::Accepted;
 
 // The reason of atom p with those of the witnesses of the rules that do not support it: step d's at a conflict, and step e's.
 pub fn whole_reason(
-    t: &[i32],
-    tb: Table,
+    t: &Accepted,
     lists: &Lists,
     p: usize,
     values: &[u8; 256],
     reasons: &[[u64; 4]; 256],
 ) -> [u64; 4]
-    requires { Laid t.now tb × Listed t.now tb lists.now × (1 ≤ p) × (p ≤ tb.atoms) }
-    ensures { row result ≡ union (rows reasons.now p) (blame_of (valued values.now) (rows reasons.now) p (program_of t.now tb)) }
+    requires { Listed t.now.words.now t.now.places lists.now × (1 ≤ p) × (p ≤ t.now.places.atoms) }
+    ensures { row result ≡ union (rows reasons.now p) (blame_of (valued values.now) (rows reasons.now) p (program_in t.now)) }
 {
-    let others = support::blame(t, tb, lists, p, values, reasons);
+    let others = support::blame(t, lists, p, values, reasons);
     let i = p - 1;
     let own = reasons[i];
     levels::union(own, others)

@@ -2,10 +2,12 @@
 use mathlib.Core.Path.{◌≡◌, refl, sym, ap, ◌∙◌, subst}
 use mathlib.Core.Logic.{◌⊎◌, inl, inr, ◌↔◌}
 use mathlib.Core.Bool.{Bool, false}
-use mathlib.Core.List.{List}
+use mathlib.Core.List.{List, [], ◌∷◌, ◌++◌}
 use Prim.Native.Nat.{ℕ, suc, ◌+◌, ◌-◌, ◌≤◌, ◌<◌}
 use native.Mathlib.Omega.{arith}
-use lib.ListN.{get_or}
+use lib.ListN.{length, get_or, take, length-take}
+use lib.Seq.{get_or-take, get_or-append_seam, take-append_seam}
+use Rattle.std.proofs.lemmas.List.{length-take-le, length_push, take-take}
 use Rattle.meaning.specs.Lists.{Is}
 use Rattle.meaning.specs.Dependency.{Chain, stay, go}
 use Rattle.meaning.proofs.Cond.{lt_case}
@@ -127,3 +129,26 @@ module _ (R : ℕ → ℕ → Bool) (p : ℕ) (l : List ℕ) (k : ℕ) (reached 
       lead : (q s : ℕ) → Chain R p q → Chain R q s → Is (A s) → Is (A q)
       lead q s c (stay d) m = subst (λ (y : ℕ). Is (A y)) (sym d) m
       lead q s c (go {q = u} d r) m = lead q u c d (closed u s (chain_join R c d) r m)
+
+-- ---- a list read from its end: what is left, and the one before it
+
+pub from_back : (l left rest : List ℕ) (q : ℕ) → left ≡ take (length left) l → left ≡ rest ++ (q ∷ [])
+    → (rest ≡ take (length rest) l) × (length left ≡ length rest + 1) × (length left ≤ length l) × (q ≡ get_or l (length rest) 0)
+from_back l left rest q front e =
+    let n : length left ≡ length rest + 1 = ap length e ∙ length_push rest q in
+    let within : length left ≤ length l = omega (arith, ap length front, length-take (length left) l) in (
+      sym (take-append_seam rest (q ∷ [])) ∙ ap (take (length rest)) (sym e ∙ front) ∙ take-take (length rest) (length left) l (omega arith),
+      n,
+      within,
+      sym (get_or-append_seam rest q [] 0) ∙ ap (λ (m : List ℕ). get_or m (length rest) 0) (sym e ∙ front) ∙ get_or-take (length left) l (length rest) 0 (omega arith),
+    )
+
+-- the list of a visit as a slice
+pub reached_slice : (R : ℕ → ℕ → Bool) (p : ℕ) (l : List ℕ) (k : ℕ) → length l ≡ 256 → Reached R p l k → Reached R p (take k l) (length (take k l))
+reached_slice R p l k n x =
+    let few : k ≤ 256 = x.few in
+    let e : length (take k l) ≡ k = length-take-le k l (omega arith) in record {
+      few = omega arith;
+      each = λ i h. let s : i < k = omega arith in subst (λ (w : ℕ). Chain R p (suc w)) (sym (get_or-take k l i 0 s)) (x.each i s);
+      all = λ q c. let w = x.all q c in (w.0, omega (arith, w.1), ap suc (get_or-take k l w.0 0 w.1) ∙ w.2);
+    }

@@ -1,4 +1,4 @@
--- Lists of words read from the last to the first: a test on some member, one member more at the front. Assumes nothing.
+-- Lists of words: a test on some member of those from an index on, with the first of them apart. Assumes nothing.
 use mathlib.Core.Path.{◌≡◌, refl, ap, ◌∙◌}
 use mathlib.Core.Bool.{Bool, false, ◌||◌}
 use mathlib.Core.List.{List, [], ◌∷◌, map}
@@ -11,25 +11,24 @@ use Rattle.meaning.specs.Lists.{any}
 use Rattle.meaning.specs.Program.{Element}
 use Rattle.layout.specs.Layout.{pairs}
 
-pub drop_none : (l : List ℤ) (i : ℕ) → i ≤ 0 → drop i l ≡ l
-drop_none l i h = let e : i ≡ 0 = omega arith in ap (λ (j : ℕ). drop j l) e
-
 module _ (l : List ℤ) (i : ℕ) where
-  -- the list from i - 1 on
-  down : 0 < i → i ≤ length l → drop (i - 1) l ≡ get_or l (i - 1) (pos 0) ∷ drop i l
-  down h k =
-      let e : suc (i - 1) ≡ i = omega arith in
-      drop-cons l (i - 1) (pos 0) (omega arith) ∙ ap (λ (j : ℕ). get_or l (i - 1) (pos 0) ∷ drop j l) e
+  on : i < length l → drop i l ≡ get_or l i (pos 0) ∷ drop (i + 1) l
+  on h =
+      let e : suc i ≡ i + 1 = omega arith in
+      drop-cons l i (pos 0) h ∙ ap (λ (j : ℕ). get_or l i (pos 0) ∷ drop j l) e
 
   module _ {A : Type 0} (f : A → Bool) (g : ℤ → A) where
     pub any_end : length l ≤ i → any f (map g (drop i l)) ≡ false
     any_end h = ap (λ (m : List ℤ). any f (map g m)) (drop_of_length-le l h)
 
-    pub any_down : 0 < i → i ≤ length l → any f (map g (drop (i - 1) l)) ≡ f (g (get_or l (i - 1) (pos 0))) || any f (map g (drop i l))
-    any_down h k = ap (λ (m : List ℤ). any f (map g m)) (down h k)
+    pub any_on : i < length l → any f (map g (drop i l)) ≡ f (g (get_or l i (pos 0))) || any f (map g (drop (i + 1) l))
+    any_on h = ap (λ (m : List ℤ). any f (map g m)) (on h)
 
-    pub any_all : i ≤ 0 → any f (map g (drop i l)) ≡ any f (map g l)
-    any_all h = ap (λ (m : List ℤ). any f (map g m)) (drop_none l i h)
+-- the same said of i - 1 and i
+pub any_down : (l : List ℤ) (i : ℕ) {A : Type 0} (f : A → Bool) (g : ℤ → A) → 0 < i → i ≤ length l → any f (map g (drop (i - 1) l)) ≡ f (g (get_or l (i - 1) (pos 0))) || any f (map g (drop i l))
+any_down l i f g h k =
+    let e : i - 1 + 1 ≡ i = omega arith in
+    any_on l (i - 1) f g (omega arith) ∙ ap (λ (j : ℕ). f (g (get_or l (i - 1) (pos 0))) || any f (map g (drop j l))) e
 
 -- ---- pairs of value and atom
 
@@ -45,24 +44,25 @@ pairs_short (v ∷ p ∷ l) h = absurd (omega arith)
 
 module _ (l : List ℤ) (i : ℕ) where
   abbrev here : Element
-  here = record { value = nat_abs (get_or l (2 * (i - 1)) (pos 0)); atom = nat_abs (get_or l (2 * (i - 1) + 1) (pos 0)) }
+  here = record { value = nat_abs (get_or l (2 * i) (pos 0)); atom = nat_abs (get_or l (2 * i + 1) (pos 0)) }
 
-  pairs_down : 0 < i → 2 * i ≤ length l → pairs (drop (2 * (i - 1)) l) ≡ here ∷ pairs (drop (2 * i) l)
-  pairs_down h k =
-      let j : ℕ = 2 * (i - 1) in
-      let a : suc j ≡ j + 1 = omega arith in
-      let b : suc (j + 1) ≡ 2 * i = omega arith in
-      let first : drop j l ≡ get_or l j (pos 0) ∷ drop (suc j) l = drop-cons l j (pos 0) (omega arith) in
-      let next : drop (j + 1) l ≡ get_or l (j + 1) (pos 0) ∷ drop (suc (j + 1)) l = drop-cons l (j + 1) (pos 0) (omega arith) in
-      ap pairs (first ∙ ap (λ (m : List ℤ). get_or l j (pos 0) ∷ m) (ap (λ (k : ℕ). drop k l) a ∙ next ∙ ap (λ (k : ℕ). get_or l (j + 1) (pos 0) ∷ drop k l) b))
-      ∙ pairs_cons (get_or l j (pos 0)) (get_or l (j + 1) (pos 0)) (drop (2 * i) l)
+  pairs_on : 2 * i + 1 < length l → pairs (drop (2 * i) l) ≡ here ∷ pairs (drop (2 * (i + 1)) l)
+  pairs_on h =
+      let j : ℕ = 2 * i in
+      let e : j + 1 + 1 ≡ 2 * (i + 1) = omega arith in
+      ap pairs (on l j (omega arith) ∙ ap (λ (m : List ℤ). get_or l j (pos 0) ∷ m) (on l (j + 1) h ∙ ap (λ (k : ℕ). get_or l (j + 1) (pos 0) ∷ drop k l) e))
+      ∙ pairs_cons (get_or l j (pos 0)) (get_or l (j + 1) (pos 0)) (drop (2 * (i + 1)) l)
 
   module _ (f : Element → Bool) where
     pub pair_end : length l ≤ 2 * i + 1 → any f (pairs (drop (2 * i) l)) ≡ false
     pair_end h = ap (any f) (pairs_short (drop (2 * i) l) (omega (arith, length-drop (2 * i) l)))
 
-    pub pair_down : 0 < i → 2 * i ≤ length l → any f (pairs (drop (2 * (i - 1)) l)) ≡ f here || any f (pairs (drop (2 * i) l))
-    pair_down h k = ap (any f) (pairs_down h k)
+    pub pair_on : 2 * i + 1 < length l → any f (pairs (drop (2 * i) l)) ≡ f here || any f (pairs (drop (2 * (i + 1)) l))
+    pair_on h = ap (any f) (pairs_on h)
 
-    pub pair_all : i ≤ 0 → any f (pairs (drop (2 * i) l)) ≡ any f (pairs l)
-    pair_all h = ap (λ (m : List ℤ). any f (pairs m)) (drop_none l (2 * i) (omega arith))
+pub pair_down : (l : List ℤ) (i : ℕ) (f : Element → Bool) → 0 < i → 2 * i ≤ length l
+    → any f (pairs (drop (2 * (i - 1)) l)) ≡ f record { value = nat_abs (get_or l (2 * (i - 1)) (pos 0)); atom = nat_abs (get_or l (2 * (i - 1) + 1) (pos 0)) } || any f (pairs (drop (2 * i) l))
+pair_down l i f h k =
+    let e : i - 1 + 1 ≡ i = omega arith in
+    pair_on l (i - 1) f (omega arith)
+    ∙ ap (λ (j : ℕ). f record { value = nat_abs (get_or l (2 * (i - 1)) (pos 0)); atom = nat_abs (get_or l (2 * (i - 1) + 1) (pos 0)) } || any f (pairs (drop (2 * j) l))) e

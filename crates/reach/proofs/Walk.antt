@@ -26,16 +26,13 @@ elements_laid t tb h j a b k l =
     let i = elements_lie tb.atoms t (start_from t 2 (j - 1)) (h.aggregates (j - 1) (omega arith)) k l in
     (i.0, omega (arith, h.few_atoms))
 
--- ---- a list of places, read from the last to the first
+-- ---- a list of places
 
 module _ (l : List ℕ) (i : ℕ) (f : ℕ → Bool) where
   pub places_end : length l ≤ i → any f (drop i l) ≡ false
   places_end h = ap (any f) (drop_of_length-le l h)
 
-  pub places_down : 0 < i → i ≤ length l → any f (drop (i - 1) l) ≡ f (get_or l (i - 1) 0) || any f (drop i l)
-  places_down h k =
-      let e : suc (i - 1) ≡ i = omega arith in
-      ap (any f) (drop-cons l (i - 1) 0 (omega arith) ∙ ap (λ (j : ℕ). get_or l (i - 1) 0 ∷ drop j l) e)
-
-  pub places_all : i ≤ 0 → any f (drop i l) ≡ any f l
-  places_all h = let e : i ≡ 0 = omega arith in ap (λ (j : ℕ). any f (drop j l)) e
+  pub places_on : i < length l → any f (drop i l) ≡ f (get_or l i 0) || any f (drop (i + 1) l)
+  places_on h =
+      let e : suc i ≡ i + 1 = omega arith in
+      ap (any f) (drop-cons l i 0 h ∙ ap (λ (j : ℕ). get_or l i 0 ∷ drop j l) e)

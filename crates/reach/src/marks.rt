@@ -1,7 +1,7 @@
 // Atoms that are marked, and the list on which each marked atom stands once, in the order in which they were marked. Meaning: `specs/Visits.antt`.
-ghost use Rattle.std.specs.Prelude.{◌≡◌, true, ◌&&◌, ℕ, suc, ◌≤◌, ◌<◌, length, get_or};
+ghost use Rattle.std.specs.Prelude.{◌≡◌, true, ◌&&◌, ℕ, suc, ◌+◌, ◌≤◌, ◌<◌, length, get_or};
 ghost use Rattle.meaning.specs.Lists.{Is};
-ghost use Rattle.levels.specs.Levels.{only};
+ghost use Rattle.levels.specs.Levels.{union, only};
 ghost use Rattle.levels.specs.View.{row};
 ghost use Rattle.reach.specs.Visits.{Part, Apart, Meeting, within, Queue, Put};
 
@@ -12,28 +12,24 @@ pub struct Marked {
     pub count: usize,
 }
 
-// Whether all words of two rows are the same.
-pub fn same(a: [u64; 4], b: [u64; 4]) -> bool
-    ensures { result ≡ true → row a ≡ row b }
+// One more atom marked.
+pub fn more(found: Marked, q: usize) -> Marked
+    requires { (1 ≤ q) × (q ≤ 256) × (found.count ≤ 256) }
+    ensures { (row result.marks ≡ union (only q) (row found.marks)) × (result.count ≡ found.count + 1) }
 {
-    if a[0] != b[0] {
-        return false;
+    let marks = found.marks;
+    let next = levels::with(marks, q);
+    Marked {
+        marks: next,
+        count: found.count + 1,
     }
-    if a[1] != b[1] {
-        return false;
-    }
-    if a[2] != b[2] {
-        return false;
-    }
-    a[3] == b[3]
 }
 
 // Whether all atoms of a set surely lie in another one.
 pub fn inside(a: [u64; 4], b: [u64; 4]) -> bool
     ensures { result ≡ true → Part (row a) (row b) }
 {
-    let all = levels::union(a, b);
-    same(all, b)
+    levels::union(a, b) == b
 }
 
 // Whether an atom is in both of two sets.
@@ -41,26 +37,14 @@ pub fn in_both(a: [u64; 4], b: [u64; 4], l: usize) -> bool
     requires { (1 ≤ l) × (l ≤ 256) }
     ensures { result ≡ row a l && row b l }
 {
-    if levels::has(a, l) {
-        return levels::has(b, l);
-    }
-    false
+    levels::has(a, l) && levels::has(b, l)
 }
 
 // Whether two sets surely have no atom in common.
 pub fn apart(a: [u64; 4], b: [u64; 4]) -> bool
     ensures { result ≡ true → Apart (row a) (row b) }
 {
-    if a[0] & b[0] != 0 {
-        return false;
-    }
-    if a[1] & b[1] != 0 {
-        return false;
-    }
-    if a[2] & b[2] != 0 {
-        return false;
-    }
-    a[3] & b[3] == 0
+    a.iter().zip(b.iter()).all(|(x, y)| *x & *y == 0)
 }
 
 // Whether one of the atoms 1 to n is in both of two sets.
@@ -71,12 +55,10 @@ pub fn meets(a: [u64; 4], b: [u64; 4], n: usize) -> bool
     if apart(a, b) {
         return false;
     }
-    let mut l = n;
-    while 0 < l {
+    for l in (1..=n).rev() {
         if in_both(a, b, l) {
             return true;
         }
-        l -= 1;
     }
     false
 }
@@ -110,12 +92,7 @@ pub fn put_one(to: [u64; 4], l: usize, seen: Marked, list: &mut [u8; 256]) -> Ma
     let end = seen.count;
     let place = l - 1;
     list[end] = place as u8;
-    let next = levels::with(marks, l);
-    let count = end + 1;
-    Marked {
-        marks: next,
-        count: count,
-    }
+    more(seen, l)
 }
 
 // The atoms 1 to n of a set that are not yet marked, marked and put at the end of the list. The atoms of a word that is 0 are passed over together.
@@ -137,18 +114,14 @@ pub fn put(to: [u64; 4], n: usize, seen: Marked, list: &mut [u8; 256]) -> Marked
     all
 }
 
-// Whether all of the first atoms of a list are in a set.
-pub fn listed_in(list: &[u8; 256], many: usize, set: [u64; 4]) -> bool
-    requires { (many ≤ 256) × ((i : ℕ) → i < many → get_or list.now i 0 < 256) }
-    ensures { result ≡ true → (i : ℕ) → i < many → Is (row set (suc (get_or list.now i 0))) }
+// Whether all atoms of a list are in a set.
+pub fn listed_in(list: &[u8], set: [u64; 4]) -> bool
+    ensures { result ≡ true → (i : ℕ) → i < length list.now → Is (row set (suc (get_or list.now i 0))) }
 {
-    let mut i: usize = 0;
-    while i < many {
-        let q = list[i] as usize + 1;
-        if !levels::has(set, q) {
+    for q in list {
+        if !levels::has(set, *q as usize + 1) {
             return false;
         }
-        i += 1;
     }
     true
 }

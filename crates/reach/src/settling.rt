@@ -1,7 +1,7 @@
 // Atoms that surely lie on no cycle: those whose arcs all go to atoms settled before, and to none else. Walks over all atoms find most of them at once where there is no
 // cycle; how many walks are made is bounded, since what is left unsettled is visited. Meaning: `specs/Visits.antt`.
-ghost use Rattle.std.specs.Prelude.{◌≡◌, true, ℕ, ◌≤◌, ◌<◌, get_or};
-ghost use Rattle.layout.specs.Layout.{program_of, Laid};
+ghost use Rattle.std.specs.Prelude.{◌≡◌, true, ℕ, ◌≤◌, ◌<◌, length, get_or};
+ghost use Rattle.layout.specs.Accepted.{program_in};
 ghost use Rattle.heads.specs.Heads.{Listed};
 ghost use Rattle.levels.specs.Levels.{up_to};
 ghost use Rattle.levels.specs.View.{row};
@@ -10,30 +10,23 @@ ghost use Rattle.reach.specs.Visits.{Part, Closed, Settling, Settled};
 
 use crate::{arcs, marks, touching};
 use heads::Lists;
-use layout::Table;
+use layout::{Accepted, Table};
 
 // How many times all atoms are walked, down and up.
 pub const ROUNDS: usize = 2;
 
 // Atom p settled, if all its arcs go to settled atoms. Where one surely does not, that is seen first.
-pub fn settle(
-    t: &[i32],
-    tb: Table,
-    lists: &Lists,
-    added: bool,
-    p: usize,
-    done: [u64; 4],
-) -> [u64; 4]
-    requires { Laid t.now tb × Listed t.now tb lists.now × (1 ≤ p) × (p ≤ tb.atoms) × Closed (arcs_of added (program_of t.now tb)) (row done) }
-    ensures { Settling (arcs_of added (program_of t.now tb)) (row done) (row result) }
+pub fn settle(t: &Accepted, lists: &Lists, added: bool, p: usize, done: [u64; 4]) -> [u64; 4]
+    requires { Listed t.now.words.now t.now.places lists.now × (1 ≤ p) × (p ≤ t.now.places.atoms) × Closed (arcs_of added (program_in t.now)) (row done) }
+    ensures { Settling (arcs_of added (program_in t.now)) (row done) (row result) }
 {
     if levels::has(done, p) {
         return done;
     }
-    if touching::touches(t, tb, lists, p, done, false) {
+    if touching::touches(t, lists, p, done, false) {
         return done;
     }
-    let to = arcs::from_atom(t, tb, lists, added, p);
+    let to = arcs::from_atom(t, lists, added, p);
     if !marks::inside(to, done) {
         return done;
     }
@@ -41,76 +34,58 @@ pub fn settle(
 }
 
 // A walk from the last atom to the first.
-pub fn down(t: &[i32], tb: Table, lists: &Lists, added: bool, done: [u64; 4]) -> [u64; 4]
-    requires { Laid t.now tb × Listed t.now tb lists.now × Closed (arcs_of added (program_of t.now tb)) (row done) }
-    ensures { Settling (arcs_of added (program_of t.now tb)) (row done) (row result) }
+// Stays: `down`, `up` and `along` differ in the order alone, and a shared walk over any order would take an iterator, with a contract longer than the loop.
+pub fn down(t: &Accepted, lists: &Lists, added: bool, done: [u64; 4]) -> [u64; 4]
+    requires { Listed t.now.words.now t.now.places lists.now × Closed (arcs_of added (program_in t.now)) (row done) }
+    ensures { Settling (arcs_of added (program_in t.now)) (row done) (row result) }
 {
     let mut all = done;
-    let mut p = tb.atoms;
-    while 0 < p {
-        let next = settle(t, tb, lists, added, p, all);
+    for p in (1..=t.places.atoms).rev() {
+        let next = settle(t, lists, added, p, all);
         all = next;
-        p -= 1;
     }
     all
 }
 
 // A walk from the first atom to the last.
-pub fn up(t: &[i32], tb: Table, lists: &Lists, added: bool, done: [u64; 4]) -> [u64; 4]
-    requires { Laid t.now tb × Listed t.now tb lists.now × Closed (arcs_of added (program_of t.now tb)) (row done) }
-    ensures { Settling (arcs_of added (program_of t.now tb)) (row done) (row result) }
+pub fn up(t: &Accepted, lists: &Lists, added: bool, done: [u64; 4]) -> [u64; 4]
+    requires { Listed t.now.words.now t.now.places lists.now × Closed (arcs_of added (program_in t.now)) (row done) }
+    ensures { Settling (arcs_of added (program_in t.now)) (row done) (row result) }
 {
-    let n = tb.atoms;
     let mut all = done;
-    let mut p: usize = 0;
-    while p < n {
-        p += 1;
-        let next = settle(t, tb, lists, added, p, all);
+    for p in 1..=t.places.atoms {
+        let next = settle(t, lists, added, p, all);
         all = next;
     }
     all
 }
 
-// A walk over the first atoms of a list, from the last to the first: where an atom was found from another one, it comes before it.
-pub fn along(
-    t: &[i32],
-    tb: Table,
-    lists: &Lists,
-    added: bool,
-    list: &[u8; 256],
-    many: usize,
-    done: [u64; 4],
-) -> [u64; 4]
-    requires { Laid t.now tb × Listed t.now tb lists.now × (many ≤ 256) × ((i : ℕ) → i < many → get_or list.now i 0 < tb.atoms)
-        × Closed (arcs_of added (program_of t.now tb)) (row done) }
-    ensures { Settling (arcs_of added (program_of t.now tb)) (row done) (row result) }
+// A walk over the atoms of a list, from the last to the first: where an atom was found from another one, it comes before it.
+pub fn along(t: &Accepted, lists: &Lists, added: bool, list: &[u8], done: [u64; 4]) -> [u64; 4]
+    requires { Listed t.now.words.now t.now.places lists.now × ((i : ℕ) → i < length list.now → get_or list.now i 0 < t.now.places.atoms) × Closed (arcs_of added (program_in t.now)) (row done) }
+    ensures { Settling (arcs_of added (program_in t.now)) (row done) (row result) }
 {
     let mut all = done;
-    let mut i = many;
-    while 0 < i {
-        i -= 1;
-        let p = list[i] as usize + 1;
-        let next = settle(t, tb, lists, added, p, all);
+    for p in list.iter().rev() {
+        let next = settle(t, lists, added, *p as usize + 1, all);
         all = next;
     }
     all
 }
 
 // The atoms that a few walks settle.
-pub fn settled(t: &[i32], tb: Table, lists: &Lists, added: bool) -> [u64; 4]
-    requires { Laid t.now tb × Listed t.now tb lists.now }
-    ensures { Settled (arcs_of added (program_of t.now tb)) (row result) }
+pub fn settled(t: &Accepted, lists: &Lists, added: bool) -> [u64; 4]
+    requires { Listed t.now.words.now t.now.places lists.now }
+    ensures { Settled (arcs_of added (program_in t.now)) (row result) }
 {
     let mut all = levels::empty();
-    let mut left = ROUNDS;
-    while 0 < left {
-        let lower = down(t, tb, lists, added, all);
-        let both = up(t, tb, lists, added, lower);
-        if marks::same(both, all) {
+    for _ in 0..ROUNDS {
+        let lower = down(t, lists, added, all);
+        let both = up(t, lists, added, lower);
+        if both == all {
             return both;
         }
         all = both;
-        left -= 1;
     }
     all
 }

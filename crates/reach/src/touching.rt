@@ -2,24 +2,21 @@
 // the set of all arcs, and serves as a short cut: "yes" for atoms of the set is sure, and nothing else is said. Meaning: `specs/Arcs.antt`.
 ghost use Rattle.std.specs.Prelude.{◌≡◌, true, false, ℕ, ◌≤◌};
 ghost use Rattle.meaning.specs.Lists.{Is};
-ghost use Rattle.layout.specs.Layout.{Members, program_of, Laid};
+ghost use Rattle.layout.specs.Accepted.{program_in};
+ghost use Rattle.layout.specs.Layout.{Members};
 ghost use Rattle.heads.specs.Heads.{Listed};
 ghost use Rattle.levels.specs.View.{row};
 ghost use Rattle.reach.specs.Arcs.{arcs_of, listed};
 
 use heads::Lists;
-use layout::Table;
+use layout::Accepted;
 
 // Whether an atom is in a set, or is not, as is wanted.
 pub fn lies(set: [u64; 4], q: usize, wanted: bool) -> bool
     requires { (1 ≤ q) × (q ≤ 256) }
     ensures { wanted ≡ true → result ≡ true → Is (row set q) }
 {
-    let is = levels::has(set, q);
-    if wanted {
-        return is;
-    }
-    !is
+    levels::has(set, q) == wanted
 }
 
 // Whether one of a list's atoms is.
@@ -27,32 +24,26 @@ pub fn atoms_lie(l: &[i32], set: [u64; 4], wanted: bool) -> bool
     requires { Members 256 l.now }
     ensures { wanted ≡ true → result ≡ true → (q : ℕ) × Is (listed l.now q) × Is (row set q) }
 {
-    let mut i: usize = 0;
-    while i < l.len() {
-        let q = words::atom(l, i);
-        if lies(set, q, wanted) {
+    for w in l {
+        if lies(set, words::size(*w), wanted) {
             return true;
         }
-        i += 1;
     }
     false
 }
 
 // Whether one of the positive body atoms of the rules with p in the head is.
-pub fn touches(t: &[i32], tb: Table, lists: &Lists, p: usize, set: [u64; 4], wanted: bool) -> bool
-    requires { Laid t.now tb × Listed t.now tb lists.now × (1 ≤ p) × (p ≤ tb.atoms) }
-    ensures { wanted ≡ true → result ≡ true → (q : ℕ) × Is (arcs_of false (program_of t.now tb) p q) × Is (row set q) }
+pub fn touches(t: &Accepted, lists: &Lists, p: usize, set: [u64; 4], wanted: bool) -> bool
+    requires { Listed t.now.words.now t.now.places lists.now × (1 ≤ p) × (p ≤ t.now.places.atoms) }
+    ensures { wanted ≡ true → result ≡ true → (q : ℕ) × Is (arcs_of false (program_in t.now) p q) × Is (row set q) }
 {
     let l = heads::list(lists, p);
-    let mut i: usize = 0;
-    while i < l.len() {
-        let at = l[i] as usize;
-        let positive = layout::past(t, at);
-        let body = layout::part(t, positive);
+    for at in l {
+        let positive = layout::past(t.words, *at as usize);
+        let body = layout::part(t.words, positive);
         if atoms_lie(body, set, wanted) {
             return true;
         }
-        i += 1;
     }
     false
 }

@@ -1,14 +1,16 @@
 -- Where tokens begin and end, and what digits come to: the laws of `gap`, `span` and `value_from`, a byte at a time. Assumes nothing.
 use mathlib.Core.Path.{◌≡◌, refl}
-use mathlib.Core.Bool.{Bool, true, false}
+use mathlib.Core.Bool.{Bool, true, false, and-false}
 use mathlib.Core.List.{List, [], ◌∷◌}
-use Prim.Native.Nat.{ℕ, suc, ◌+◌, ◌*◌, ◌-◌, ◌<◌, ◌≤◌, min}
+use Prim.Native.Nat.{ℕ, suc, ◌+◌, ◌*◌, ◌-◌, ◌<◌, ◌≤◌, max, min}
 use native.Mathlib.Numerals.{add-one}
 use native.Mathlib.Omega.{arith}
+use borrow.Author.Tests.{le-leb, lt-leb, leb-true, leb-false}
+use lib.Dec.{leb}
 use lib.ListN.{length, get_or, drop, drop_of_length-le}
 use lib.Seq.{drop-cons}
 use Rattle.notation.specs.Tokens.{digit}
-use Rattle.read_notation.specs.Scanning.{between, comment_after, gap, span, value_from}
+use Rattle.read_notation.specs.Scanning.{between, comment_after, gap, among, span, value_from}
 
 -- ---- one byte
 
@@ -51,6 +53,18 @@ pub value_none : (n : ℕ) → value_from n [] ≡ n
 unfolding value_from
 value_none n = refl
 
+-- ---- the bytes from low to high
+
+module _ (low high b : ℕ) where
+  pub among_low : b < low → among low high b ≡ false
+  among_low h = rw (lt-leb low b h)
+
+  pub among_high : high < b → among low high b ≡ false
+  among_high h = rw (lt-leb b high h) (and-false (leb low b))
+
+  pub among_in : low ≤ b → b ≤ high → among low high b ≡ true
+  among_in h k = rw (le-leb low b h, le-leb b high k)
+
 -- ---- a loop's step: at index i of the bytes
 
 module _ (bs : List ℕ) (i : ℕ) (h : i < length bs) where
@@ -74,11 +88,21 @@ module _ (bs : List ℕ) (i : ℕ) (h : i < length bs) where
       let s = span_no kind (get_or bs i 0) (drop (suc i) bs) e in
       rw (drop-cons bs i 0 h, s) (omega arith)
 
-pub gap_end : (bs : List ℕ) (i : ℕ) (c : Bool) → length bs ≤ i → i ≡ i + gap c (drop i bs)
-gap_end bs i c h = rw (drop_of_length-le bs h, gap_none c) (omega arith)
+-- past the end, or after a walk to the end
+module _ (bs : List ℕ) (from i : ℕ) where
+  past_end : (m n : ℕ) → (length bs ≤ i → m ≡ 0) → (length bs ≤ from → n ≡ 0) → length bs ≤ i → (from ≤ length bs → i ≤ length bs) → i + m ≡ from + n → max from (length bs) ≡ from + n
+  past_end m n y z h e q = at (leb from (length bs)) refl
+    where
+      at : (b : Bool) → leb from (length bs) ≡ b → max from (length bs) ≡ from + n
+      at true f = let g = e (leb-true from (length bs) f) in let u = y h in omega arith
+      at false f = let g = leb-false from (length bs) f in let u = z (omega arith) in omega arith
 
-pub span_end : (bs : List ℕ) (i : ℕ) (kind : ℕ → Bool) → length bs ≤ i → i ≡ i + span kind (drop i bs)
-span_end bs i kind h = rw (drop_of_length-le bs h, span_none kind) (omega arith)
+  -- a loop that has ended at i, in a comment or not
+  pub gap_past : (c : Bool) → length bs ≤ i → (from ≤ length bs → i ≤ length bs) → i + gap c (drop i bs) ≡ from + gap false (drop from bs) → max from (length bs) ≡ from + gap false (drop from bs)
+  gap_past c = past_end _ _ (λ h. rw (drop_of_length-le bs h) (gap_none c)) (λ h. rw (drop_of_length-le bs h) (gap_none false))
+
+  pub span_past : (kind : ℕ → Bool) → length bs ≤ i → (from ≤ length bs → i ≤ length bs) → i + span kind (drop i bs) ≡ from + span kind (drop from bs) → max from (length bs) ≡ from + span kind (drop from bs)
+  span_past kind = past_end _ _ (λ h. rw (drop_of_length-le bs h) (span_none kind)) (λ h. rw (drop_of_length-le bs h) (span_none kind))
 
 -- ---- values that are held at the cap: what is above it stays above
 

@@ -2,14 +2,10 @@
 --   At A            what was made, and the cursor after it; or why not, and the index at which the token at fault begins
 --   run_at bs p c    reads p from the tokens that come next
 -- A token at fault is the last one or the one before it: `notation` stops for no other. Assumes nothing.
-use Rattle.std.specs.Prelude.{Bool, true, List, ℕ, zero, suc}
+use Rattle.std.specs.Prelude.{Bool, true, List, ℕ, zero, suc, Result, Ok, Err}
 use Rattle.notation.specs.Parser.{Why, unexpected, Parser, done, stop, next}
 use Rattle.read_notation.specs.declared.lexing.Lexeme.{Lexeme}
 use Rattle.read_notation.specs.declared.single.Cursor.{Cursor}
-use Rattle.read_notation.specs.declared.single.Numbered.{Numbered}
-use Rattle.read_notation.specs.declared.single.Numbered.TheVariants as numbered
-use Rattle.read_notation.specs.declared.single.Marked.{Marked}
-use Rattle.read_notation.specs.declared.single.Marked.TheVariants as marked
 use Rattle.read_notation.specs.Lexemes.{lex_at}
 use Rattle.read_notation.specs.Views.{token_of}
 
@@ -36,10 +32,10 @@ run_at bs (next f) c = run_at bs (f (token_of bs (lex_at bs c.after))) (moved c 
 
 -- ---- single tokens: what the code returns of a number and of a mark
 
-abbrev pub numbered_at : Cursor → Numbered → At ℕ
-numbered_at c (numbered.Number n s e) = came n (past c s e)
-numbered_at c (numbered.Fault s) = fault unexpected s
+abbrev pub numbered_at : Result (ℕ × Cursor) ℕ → At ℕ
+numbered_at (Ok r) = came r.0 r.1
+numbered_at (Err s) = fault unexpected s
 
-abbrev pub marked_at : Cursor → Marked → At Bool
-marked_at c (marked.Past s e) = came true (past c s e)
-marked_at c (marked.Fault s) = fault unexpected s
+abbrev pub marked_at : Result Cursor ℕ → At Bool
+marked_at (Ok c) = came true c
+marked_at (Err s) = fault unexpected s

@@ -3,7 +3,7 @@
 --   span        how many bytes of a kind stand here
 --   value_from   the value of the digits that stand here, after n
 -- Assumes nothing.
-use Rattle.std.specs.Prelude.{Bool, true, false, cond, not, List, [], ◌∷◌, ℕ, suc, ◌+◌, ◌-◌, ◌*◌, eqb}
+use Rattle.std.specs.Prelude.{Bool, true, false, ◌&&◌, cond, not, List, [], ◌∷◌, ℕ, suc, ◌+◌, ◌-◌, ◌*◌, eqb, leb}
 use Rattle.notation.specs.Tokens.{digit, blank}
 
 -- ---- between tokens; 37 is the percent sign, 10 a newline
@@ -19,6 +19,10 @@ gap comment [] = 0
 gap comment (b ∷ bs) = elim (between comment b) [ true ↦ suc (gap (comment_after comment b) bs) | false ↦ 0 ]
 
 -- ---- within one
+
+-- the bytes from low to high
+abbrev pub among : ℕ → ℕ → ℕ → Bool
+among low high b = leb low b && leb b high
 
 unfoldable pub span : (ℕ → Bool) → List ℕ → ℕ
 span kind [] = 0

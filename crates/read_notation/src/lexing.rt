@@ -24,6 +24,7 @@ pub struct Lexeme {
 }
 
 // A byte that is no digit and no letter: by itself, or with the next one. 58 is the colon, 45 the minus.
+#[tactic(auto, unfolding(crate::specs::Lexemes::mark_at))]
 fn mark_at(text: &[u8], start: usize) -> Lexeme
     requires { start < length text.now }
     ensures { result ≡ mark_at text.now start }
@@ -62,6 +63,7 @@ fn mark_at(text: &[u8], start: usize) -> Lexeme
 }
 
 // The token that begins at an index of the text, or the end.
+#[tactic(auto, unfolding(crate::specs::Lexemes::started_at))]
 fn started_at(text: &[u8], start: usize) -> Lexeme
     ensures { result ≡ started_at text.now start }
 {

@@ -13,27 +13,22 @@ pub enum Why {
     Misnumbered,
 }
 
-#[derive(Clone, Copy)]
-pub enum Test {
-    Fine,
-    Fault(Why),
-}
-
 // Whether the atom p may come after `count` atoms of which `last` is the last.
-pub fn admits(top: usize, most: usize, count: usize, last: usize, p: usize) -> Test
+#[tactic(auto, unfolding(crate::specs::Admitting::admitted))]
+pub fn admits(top: usize, most: usize, count: usize, last: usize, p: usize) -> Result<(), Why>
     ensures { result ≡ admitted top most count last p }
 {
     if p == 0 {
-        return Test::Fault(Why::Outside);
+        return Err(Why::Outside);
     }
     if top < p {
-        return Test::Fault(Why::Outside);
+        return Err(Why::Outside);
     }
     if p <= last {
-        return Test::Fault(Why::Descent);
+        return Err(Why::Descent);
     }
     if most <= count {
-        return Test::Fault(Why::TooMany);
+        return Err(Why::TooMany);
     }
-    Test::Fine
+    Ok(())
 }

@@ -6,27 +6,22 @@ ghost use Rattle.read_notation.specs.Naming.{named_of};
 use aspif_scan::kind::same;
 use meaning::Function;
 
-// The function that a word names, or that it names none.
-#[derive(Clone, Copy)]
-pub enum Named {
-    Calls(Function),
-    Nothing,
-}
-
-pub fn function_of(word: &[u8]) -> Named
+// The function that a word names, if it names one.
+#[tactic(auto, unfolding(notation::specs::Aggregates::function_of))]
+pub fn function_of(word: &[u8]) -> Option<Function>
     ensures { named_of result ≡ function_of word.now }
 {
     if same(word, b"count") {
-        return Named::Calls(Function::Count);
+        return Some(Function::Count);
     }
     if same(word, b"sum") {
-        return Named::Calls(Function::Sum);
+        return Some(Function::Sum);
     }
     if same(word, b"min") {
-        return Named::Calls(Function::Min);
+        return Some(Function::Min);
     }
     if same(word, b"max") {
-        return Named::Calls(Function::Max);
+        return Some(Function::Max);
     }
-    Named::Nothing
+    None
 }

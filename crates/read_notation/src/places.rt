@@ -35,12 +35,10 @@ pub fn place_of(text: &[u8], at: usize) -> Place
 {
     let mut line: usize = 1;
     let mut column: usize = 1;
-    let mut i: usize = 0;
-    while i < at {
+    for i in 0..at {
         let b = text[i];
         line = line_after(line, b);
         column = column_after(column, b);
-        i += 1;
     }
     Place { line, column }
 }

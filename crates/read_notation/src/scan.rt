@@ -2,7 +2,7 @@
 // is taken for that: it is good nowhere.
 ghost use Rattle.std.specs.Prelude.{◌≡◌, false, ◌+◌, ◌*◌, ◌-◌, ◌≤◌, min, drop};
 ghost use Rattle.notation.specs.Tokens as T;
-ghost use Rattle.read_notation.specs.Scanning.{between, comment_after, gap, span, value_from};
+ghost use Rattle.read_notation.specs.Scanning.{between, comment_after, gap, among, span, value_from};
 
 // One above the highest number that 01 allows anywhere, a threshold.
 const CAP: usize = 4194305;
@@ -28,16 +28,7 @@ pub fn letter(b: u8) -> bool
 fn blank(b: u8) -> bool
     ensures { result ≡ T.blank b }
 {
-    if b == 32 {
-        return true;
-    }
-    if b == 9 {
-        return true;
-    }
-    if b == 10 {
-        return true;
-    }
-    b == 13
+    matches!(b, b' ' | b'\t' | b'\n' | b'\r')
 }
 
 // Whether a byte stands between tokens, in a comment or not; 37 is the percent sign.
@@ -68,44 +59,44 @@ pub fn token_start(text: &[u8], from: usize) -> usize
     ensures { result ≡ from + gap false (drop from text.now) }
 {
     let mut comment = false;
-    let mut i = from;
-    while i < text.len() {
+    for i in from..text.len() {
         let b = text[i];
         if !passes(comment, b) {
             return i;
         }
         comment = comment_after(comment, b);
-        i += 1;
     }
-    i
+    from.max(text.len())
+}
+
+// The index past the bytes from `low` to `high` that stand from `from` on.
+fn span_end(text: &[u8], from: usize, low: u8, high: u8) -> usize
+    ensures { result ≡ from + span (among low high) (drop from text.now) }
+{
+    for i in from..text.len() {
+        let b = text[i];
+        if b < low {
+            return i;
+        }
+        if high < b {
+            return i;
+        }
+    }
+    from.max(text.len())
 }
 
 // The index past the digits that stand from `from` on.
 pub fn digits_end(text: &[u8], from: usize) -> usize
     ensures { result ≡ from + span T.digit (drop from text.now) }
 {
-    let mut i = from;
-    while i < text.len() {
-        if !digit(text[i]) {
-            return i;
-        }
-        i += 1;
-    }
-    i
+    span_end(text, from, b'0', b'9')
 }
 
 // The index past the letters that stand from `from` on.
 pub fn letters_end(text: &[u8], from: usize) -> usize
     ensures { result ≡ from + span T.letter (drop from text.now) }
 {
-    let mut i = from;
-    while i < text.len() {
-        if !letter(text[i]) {
-            return i;
-        }
-        i += 1;
-    }
-    i
+    span_end(text, from, b'a', b'z')
 }
 
 // One digit more.
@@ -113,18 +104,8 @@ fn add_digit(value: usize, b: u8) -> usize
     requires { value ≤ 4194305 }
     ensures { result ≡ min (value * 10 + (b - 48)) 4194305 }
 {
-    if b < 48 {
-        let low = value * 10;
-        if CAP < low {
-            return CAP;
-        }
-        return low;
-    }
-    let next = value * 10 + (b - 48) as usize;
-    if CAP < next {
-        return CAP;
-    }
-    next
+    let next = value * 10 + usize::from(b.saturating_sub(48));
+    next.min(CAP)
 }
 
 // The value of the digits that stand from `from` on, held at the cap.
@@ -132,14 +113,12 @@ pub fn value(text: &[u8], from: usize) -> usize
     ensures { result ≡ min (value_from 0 (drop from text.now)) 4194305 }
 {
     let mut sum: usize = 0;
-    let mut i = from;
-    while i < text.len() {
+    for i in from..text.len() {
         let b = text[i];
         if !digit(b) {
             return sum;
         }
         sum = add_digit(sum, b);
-        i += 1;
     }
     sum
 }

@@ -55,15 +55,12 @@ whole a old n w h e f =
     (m, sym (take-append-drop n a) ∙ ap (λ (l : List ℕ). l ++ drop n a) g ∙ ap (λ (l : List ℕ). w ++ l) f ∙ ap (λ (k : ℕ). w ++ drop k old) m)
 
 -- as the walk goes on by one rule: the numbers that stand and those to come are the same all the way
-pub drops_on : (kept : ℕ → Bool) (t : List ℤ) (a a' : List ℕ) (n n' at at' i j m m' : ℕ) (b : Bool) (w : List ℕ)
-    → b ≡ not (headed (rule_at t at) || kept j) → j ≡ suc i → a' ≡ cond b (set a n j) a → n' ≡ n + bit_of b → at' ≡ past_rule t at → 0 < m → m' ≡ m - 1 → n < length a
-    → take n a ++ dropped_from kept (suc i) (rules_from t at m) ≡ w → take n' a' ++ dropped_from kept (suc j) (rules_from t at' m') ≡ w
-drops_on kept t a a' n n' at at' i j m m' b w drops num list count next more less fits e =
-    let rest = dropped_from kept (suc (suc i)) (rules_from t (past_rule t at) (m - 1)) in
-    let new = cond b (set a n j) a in
-    ap (λ (x : List ℕ). take n' x ++ dropped_from kept (suc j) (rules_from t at' m')) list ∙ ap (λ (x : ℕ). take x new ++ dropped_from kept (suc j) (rules_from t at' m')) count
-    ∙ ap (λ (x : ℕ). take (n + bit_of b) new ++ dropped_from kept (suc j) (rules_from t x m')) next ∙ ap (λ (x : ℕ). take (n + bit_of b) new ++ dropped_from kept (suc x) (rules_from t (past_rule t at) m')) num
-    ∙ ap (λ (x : ℕ). take (n + bit_of b) new ++ dropped_from kept (suc (suc i)) (rules_from t (past_rule t at) x)) less
-    ∙ grows a a n j rest w fits b
-    (ap (λ (c : Bool). take n a ++ cons_if c j rest) (drops ∙ ap (λ (x : ℕ). not (headed (rule_at t at) || kept x)) num) ∙ ap (λ (x : ℕ). take n a ++ cons_if (not (headed (rule_at t at) || kept (suc i))) x rest) num
-    ∙ ap (λ (l : List ℕ). take n a ++ l) (sym (dropped_on kept t at (suc i) m more)) ∙ e)
+pub drops_on : (kept : ℕ → Bool) (t : List ℤ) (a a' : List ℕ) (n n' at at' i m m' : ℕ) (b : Bool) (w : List ℕ)
+    → b ≡ not (headed (rule_at t at) || kept (i + 1)) → a' ≡ cond b (set a n (i + 1)) a → n' ≡ n + bit_of b → at' ≡ past_rule t at → 0 < m → m' ≡ m - 1 → n < length a
+    → take n a ++ dropped_from kept (suc i) (rules_from t at m) ≡ w → take n' a' ++ dropped_from kept (suc (i + 1)) (rules_from t at' m') ≡ w
+drops_on kept t a a' n n' at at' i m m' b w drops list count next more less fits e =
+    let j = add-one i in
+    let d = dropped_on kept t at (suc i) m more in
+    let stood : take n a ++ cons_if b (suc i) (dropped_from kept (suc (suc i)) (rules_from t (past_rule t at) (m - 1))) ≡ w = cc in
+    let s = grows a a n (suc i) (dropped_from kept (suc (suc i)) (rules_from t (past_rule t at) (m - 1))) w fits b stood in
+    cc

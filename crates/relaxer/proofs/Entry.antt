@@ -9,6 +9,7 @@ use mathlib.Core.Bool.{Bool, false}
 use mathlib.Core.Option.{some}
 use mathlib.Core.List.Memᴰ
 use mathlib.Core.List.{List, [], ◌∷◌, ◌++◌}
+use Rattle.std.specs.Prelude.{Result, Ok, Err}
 use Prim.Native.Nat.{ℕ, ◌≤◌}
 use native.Mathlib.Omega.{arith}
 use lib.IntN.{ℤ}
@@ -56,14 +57,14 @@ module _ (cycles : Bool) (t : List ℤ) (room places : ℕ) where
       omega (arith, k, l, s)
 
 -- what a result that says so is
-kinds : {r s : Relaxed} → r ≡ s → (relax_report_of r).kind ≡ (relax_report_of s).kind
-kinds e = ap (λ (x : Relaxed). (relax_report_of x).kind) e
+kinds : {r s : Result Relaxed Refusal} → r ≡ s → (relax_report_of r).kind ≡ (relax_report_of s).kind
+kinds e = ap (λ (x : Result Relaxed Refusal). (relax_report_of x).kind) e
 
-module _ (t : List ℤ) (ask : Ask) (list list' plan plan' : List ℕ) (r : Relaxed) where
+module _ (t : List ℤ) (ask : Ask) (list list' plan plan' : List ℕ) (r : Result Relaxed Refusal) where
   abbrev Refuses : ℕ → ℕ → Type 0
   Refuses n i = RelaxRefused ask.cycles t (length plan) (length list) n i
 
-  module _ (f : Refusal) (h : Refuses (number_of f) (place_of f)) (e : r ≡ told.Refused f) where
+  module _ (f : Refusal) (h : Refuses (number_of f) (place_of f)) (e : r ≡ Err f) where
     says : relax_report_of r ≡ refusal_relaxed (number_of f) (place_of f)
     says = ap relax_report_of e
 
@@ -95,14 +96,14 @@ fewer P kept X A = fewer_rules (rules_of P kept) P (rules_part kept P) (λ s q. 
     cover s q (inl y) = let u = in_numbered 1 P q in inl (rules_i kept 1 P u.0 s u.1 (or_l _ _ y))
     cover s q (inr y) = inr y
 
-module _ (cycles : Bool) (n : ℕ) (P : Program) (inside : AtomsIn n P) (no_head : HeadsFree cycles P) (noAgg : Free AggregateCycle P) (lim : ℕ) (list list' plan plan' : List ℕ) (r : Relaxed)
-    (e : r ≡ relaxed_by P (relax cycles n lim P)) (l : list' ≡ list_after P (relax cycles n lim P) list) (w : plan' ≡ plan_after n (relax cycles n lim P) plan) where
+module _ (cycles : Bool) (n : ℕ) (P : Program) (inside : AtomsIn n P) (no_head : HeadsFree cycles P) (noAgg : Free AggregateCycle P) (lim : ℕ) (list list' plan plan' : List ℕ) (r : Result Relaxed Refusal)
+    (e : r ≡ Ok (relaxed_by P (relax cycles n lim P))) (l : list' ≡ list_after P (relax cycles n lim P) list) (w : plan' ≡ plan_after n (relax cycles n lim P) plan) where
   abbrev x : defined.Relaxed
   x = relax cycles n lim P
 
   -- the result, by what the definition comes to
-  comes : (y : defined.Relaxed) → x ≡ y → r ≡ relaxed_by P y
-  comes y f = e ∙ ap (relaxed_by P) f
+  comes : (y : defined.Relaxed) → x ≡ y → r ≡ Ok (relaxed_by P y)
+  comes y f = e ∙ ap (λ (z : defined.Relaxed). Ok (relaxed_by P z)) f
 
   kept_list : (y : defined.Relaxed) → x ≡ y → list' ≡ list_after P y list
   kept_list y f = l ∙ ap (λ (z : defined.Relaxed). list_after P z list) f
@@ -110,10 +111,10 @@ module _ (cycles : Bool) (n : ℕ) (P : Program) (inside : AtomsIn n P) (no_head
   kept_plan : (y : defined.Relaxed) → x ≡ y → plan' ≡ plan_after n y plan
   kept_plan y f = w ∙ ap (λ (z : defined.Relaxed). plan_after n z plan) f
 
-  answers_by : (y : defined.Relaxed) → x ≡ y → (k : ℕ) → r ≡ told.Answer k → GivesUp n P list list' plan plan' k
+  answers_by : (y : defined.Relaxed) → x ≡ y → (k : ℕ) → r ≡ Ok (told.Answer k) → GivesUp n P list list' plan plan' k
   answers_by (relaxed kept X) f k h =
       let G = relax_gives cycles n P inside no_head noAgg lim kept X f in
-      let m : k ≡ length (dropped_of P kept) = ap (λ (s : Relaxed). (relax_report_of s).dropped) (sym h ∙ comes (relaxed kept X) f) in
+      let m : k ≡ length (dropped_of P kept) = ap (λ (s : Result Relaxed Refusal). (relax_report_of s).dropped) (sym h ∙ comes (relaxed kept X) f) in
       record {
         kept = kept;
         keeps = G.keeping;
@@ -125,18 +126,18 @@ module _ (cycles : Bool) (n : ℕ) (P : Program) (inside : AtomsIn n P) (no_head
   answers_by no_plan f k h = absurd (let z = kinds (sym h ∙ comes no_plan f) in omega arith)
   answers_by at_limit f k h = absurd (let z = kinds (sym h ∙ comes at_limit f) in omega arith)
 
-  none_by : (y : defined.Relaxed) → x ≡ y → r ≡ told.Nothing → ((X : Atoms) → AnswerSet (keep headed P) X → ⊥) × (list' ≡ list) × (plan' ≡ plan)
+  none_by : (y : defined.Relaxed) → x ≡ y → r ≡ Ok told.Nothing → ((X : Atoms) → AnswerSet (keep headed P) X → ⊥) × (list' ≡ list) × (plan' ≡ plan)
   none_by (relaxed kept X) f h = absurd (let z = kinds (sym h ∙ comes (relaxed kept X) f) in omega arith)
   none_by no_plan f h = (none_means_none cycles n P inside no_head noAgg lim f, kept_list no_plan f, kept_plan no_plan f)
   none_by at_limit f h = absurd (let z = kinds (sym h ∙ comes at_limit f) in omega arith)
 
-  limit_by : (y : defined.Relaxed) → x ≡ y → r ≡ told.Limit
+  limit_by : (y : defined.Relaxed) → x ≡ y → r ≡ Ok told.Limit
       → ((kept : ℕ → Bool) × (o : Outcome) × (solve (base_by cycles (rules_of P kept) n) jump lim ≡ some o) × (o.result ≡ limit)) × (list' ≡ list) × (plan' ≡ plan)
   limit_by (relaxed kept X) f h = absurd (let z = kinds (sym h ∙ comes (relaxed kept X) f) in omega arith)
   limit_by no_plan f h = absurd (let z = kinds (sym h ∙ comes no_plan f) in omega arith)
   limit_by at_limit f h = (limit_is_a_trials cycles n P inside no_head noAgg lim f, kept_list at_limit f, kept_plan at_limit f)
 
-  found_by_lem : (y : defined.Relaxed) → x ≡ y → (X : Atoms) → AnswerSet (keep headed P) X → r ≢ told.Limit → (k : ℕ) × (r ≡ told.Answer k)
+  found_by_lem : (y : defined.Relaxed) → x ≡ y → (X : Atoms) → AnswerSet (keep headed P) X → r ≢ Ok told.Limit → (k : ℕ) × (r ≡ Ok (told.Answer k))
   found_by_lem (relaxed kept Y) f X A h = (length (dropped_of P kept), comes (relaxed kept Y) f)
   found_by_lem no_plan f X A h = absurd (none_means_none cycles n P inside no_head noAgg lim f X A)
   found_by_lem at_limit f X A h = absurd (h (comes at_limit f))
@@ -169,8 +170,8 @@ module _ (cycles : Bool) (n : ℕ) (P : Program) (inside : AtomsIn n P) (no_head
 
 -- ---- an accepted table
 
-module _ (t : List ℤ) (ask : Ask) (list list' plan plan' : List ℕ) (r : Relaxed) (c : Contents) (a : AcceptedBy ask.cycles t (Plan (length plan)) c) (fits : length (program c) ≤ length list)
-    (e : r ≡ relaxed_by (program c) (relax ask.cycles c.atoms ask.limit (program c))) (l : list' ≡ list_after (program c) (relax ask.cycles c.atoms ask.limit (program c)) list)
+module _ (t : List ℤ) (ask : Ask) (list list' plan plan' : List ℕ) (r : Result Relaxed Refusal) (c : Contents) (a : AcceptedBy ask.cycles t (Plan (length plan)) c) (fits : length (program c) ≤ length list)
+    (e : r ≡ Ok (relaxed_by (program c) (relax ask.cycles c.atoms ask.limit (program c)))) (l : list' ≡ list_after (program c) (relax ask.cycles c.atoms ask.limit (program c)) list)
     (w : plan' ≡ plan_after c.atoms (relax ask.cycles c.atoms ask.limit (program c)) plan) where
   all : Relaxes ask.cycles c.atoms (program c) ask.limit list list' plan plan' r
   all = relaxes_by ask.cycles c.atoms (program c) (accepted_atoms t c a.holds) (heads_free t (Plan (length plan)) c a) a.no_aggregate ask.limit list list' plan plan' r e l w

@@ -7,6 +7,7 @@ use mathlib.Core.Path.{◌≡◌, refl, sym, ap, ◌∙◌}
 use mathlib.Core.Bool.{Bool, true, false, cond, ◌||◌}
 use mathlib.Core.List.{List, [], ◌∷◌, ◌++◌, map}
 use Prim.Native.Nat.{ℕ, zero, suc, ◌+◌, ◌-◌, ◌≤◌, ◌<◌}
+use native.Mathlib.Numerals.{add-one}
 use native.Mathlib.Omega.{arith}
 use lib.IntN.{ℤ}
 use lib.ListN.{length, set}
@@ -86,17 +87,15 @@ put_on a n x true l w h e = moved a bounds n x l w h e
 put_on a n x false l w h e = let z : n + 0 ≡ n = omega arith in ap (λ (m : ℕ). part a bounds m ++ l) z ∙ e
 
 -- and as the walk goes on by one rule: the places that stand and those to come are the same all the way
-pub places_on : (kept : ℕ → Bool) (t : List ℤ) (a a' : List ℕ) (n n' at at' i j m m' : ℕ) (b : Bool) (w : List ℕ)
-    → b ≡ headed (rule_at t at) || kept j → j ≡ suc i → a' ≡ cond b (set a (bounds + n) at) a → n' ≡ n + bit_of b → at' ≡ past_rule t at → 0 < m → m' ≡ m - 1 → bounds + n < length a
-    → part a bounds n ++ kept_from kept t at (suc i) m ≡ w → part a' bounds n' ++ kept_from kept t at' (suc j) m' ≡ w
-places_on kept t a a' n n' at at' i j m m' b w takes num list count next more less fits e =
-    let rest = kept_from kept t (past_rule t at) (suc (suc i)) (m - 1) in
-    let new = cond b (set a (bounds + n) at) a in
-    ap (λ (x : List ℕ). part x bounds n' ++ kept_from kept t at' (suc j) m') list ∙ ap (λ (x : ℕ). part new bounds x ++ kept_from kept t at' (suc j) m') count
-    ∙ ap (λ (x : ℕ). part new bounds (n + bit_of b) ++ kept_from kept t x (suc j) m') next ∙ ap (λ (x : ℕ). part new bounds (n + bit_of b) ++ kept_from kept t (past_rule t at) (suc x) m') num
-    ∙ ap (λ (x : ℕ). part new bounds (n + bit_of b) ++ kept_from kept t (past_rule t at) (suc (suc i)) x) less
-    ∙ put_on a n at b rest w fits
-    (ap (λ (c : Bool). part a bounds n ++ cons_if c at rest) (takes ∙ ap (λ (x : ℕ). headed (rule_at t at) || kept x) num) ∙ ap (λ (l : List ℕ). part a bounds n ++ l) (sym (kept_on kept t at (suc i) m more)) ∙ e)
+pub places_on : (kept : ℕ → Bool) (t : List ℤ) (a a' : List ℕ) (n n' at at' i m m' : ℕ) (b : Bool) (w : List ℕ)
+    → b ≡ headed (rule_at t at) || kept (i + 1) → a' ≡ cond b (set a (bounds + n) at) a → n' ≡ n + bit_of b → at' ≡ past_rule t at → 0 < m → m' ≡ m - 1 → bounds + n < length a
+    → part a bounds n ++ kept_from kept t at (suc i) m ≡ w → part a' bounds n' ++ kept_from kept t at' (suc (i + 1)) m' ≡ w
+places_on kept t a a' n n' at at' i m m' b w takes list count next more less fits e =
+    let j = add-one i in
+    let k = kept_on kept t at (suc i) m more in
+    let stood : part a bounds n ++ cons_if b at (kept_from kept t (past_rule t at) (suc (suc i)) (m - 1)) ≡ w = cc in
+    let s = put_on a n at b (kept_from kept t (past_rule t at) (suc (suc i)) (m - 1)) w fits stood in
+    cc
 
 pub bit≤1 : (b : Bool) → bit_of b ≤ 1
 bit≤1 true = omega arith

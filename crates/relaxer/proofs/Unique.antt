@@ -4,10 +4,12 @@
 use mathlib.Core.Path.{◌≡◌, refl, sym, ◌∙◌}
 use mathlib.Core.Logic.{◌⊎◌, inl, inr}
 use mathlib.Core.List.{List}
+use Rattle.std.specs.Prelude.{Result}
 use Prim.Native.Nat.{ℕ, ◌≤◌, ◌<◌}
 use lib.IntN.{ℤ}
 use lib.ListN.{length}
 use Rattle.meaning.proofs.Cond.{lt_case}
+use Rattle.results.specs.declared.Refusal.{Refusal}
 use Rattle.results.specs.declared.Ask.{Ask}
 use Rattle.results.specs.declared.Relaxed.{Relaxed}
 use Rattle.results.specs.Results.{number_of, place_of}
@@ -19,10 +21,10 @@ use Rattle.judging.proofs.Judged.{DecidedBy, decided}
 use Rattle.relaxer.specs.Promise.{RelaxRefused, before, short, Relaxing}
 
 module _ (t : List ℤ) (ask : Ask) (list plan : List ℕ) where
-  abbrev Same : List ℕ → List ℕ → Relaxed → List ℕ → List ℕ → Relaxed → Type 0
+  abbrev Same : List ℕ → List ℕ → Result Relaxed Refusal → List ℕ → List ℕ → Result Relaxed Refusal → Type 0
   Same list' plan' r list'' plan'' s = (r ≡ s) × (list' ≡ list'') × (plan' ≡ plan'')
 
-  module _ (list' plan' : List ℕ) (r : Relaxed) (list'' plan'' : List ℕ) (s : Relaxed) (a : Relaxing t ask list list' plan plan' r) (b : Relaxing t ask list list'' plan plan'' s) where
+  module _ (list' plan' : List ℕ) (r : Result Relaxed Refusal) (list'' plan'' : List ℕ) (s : Result Relaxed Refusal) (a : Relaxing t ask list list' plan plan' r) (b : Relaxing t ask list list'' plan plan'' s) where
     refused : (n i : ℕ) → RelaxRefused ask.cycles t (length plan) (length list) n i → Same list' plan' r list'' plan'' s
     refused n i h =
         let e = (a.refused n i).1 h in
@@ -49,6 +51,6 @@ module _ (t : List ℤ) (ask : Ask) (list plan : List ℕ) where
     relaxing_unique = by_table (decided t (Plan (length plan)))
 
   -- what the lent lists and candidates held before and hold after is in no promise: so two calls over any contents give the same
-  pub lent_unique : (lists candidates lists' candidates' : List ℕ) (list' plan' : List ℕ) (r : Relaxed) (list'' plan'' : List ℕ) (s : Relaxed)
+  pub lent_unique : (lists candidates lists' candidates' : List ℕ) (list' plan' : List ℕ) (r : Result Relaxed Refusal) (list'' plan'' : List ℕ) (s : Result Relaxed Refusal)
       → Relaxing t ask list list' plan plan' r → Relaxing t ask list list'' plan plan'' s → Same list' plan' r list'' plan'' s
   lent_unique lists candidates lists' candidates' list' plan' r list'' plan'' s a b = relaxing_unique list' plan' r list'' plan'' s a b

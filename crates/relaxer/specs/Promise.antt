@@ -6,12 +6,13 @@
 -- The lent list is `list` before the call and `list'` after it, the plan buffer `plan` and `plan'`. "For this entry demand 2 reads over the rules kept, and its
 -- "none" over the rules with heads alone."
 -- Assumes nothing.
-use Rattle.std.specs.Prelude.{◌≡◌, ◌≢◌, ◌↔◌, Bool, List, ◌++◌, ℕ, ◌≤◌, ◌<◌, ℤ, length, drop}
+use Rattle.std.specs.Prelude.{◌≡◌, ◌≢◌, ◌↔◌, Bool, List, ◌++◌, ℕ, ◌≤◌, ◌<◌, ℤ, length, drop, Result, Ok}
 use Rattle.std.proofs.Math.Option.{some}
 use Rattle.meaning.specs.Lists.{◌∈◌, keep}
 use Rattle.meaning.specs.Aggregates.{Atoms}
 use Rattle.meaning.specs.Program.{Program}
 use Rattle.meaning.specs.Answers.{AnswerSet}
+use Rattle.results.specs.declared.Refusal.{Refusal}
 use Rattle.results.specs.declared.Ask.{Ask}
 use Rattle.results.specs.declared.Relaxed.{Relaxed}
 use Rattle.results.specs.declared.Relaxed.TheVariants as told
@@ -67,27 +68,27 @@ pub record GivesUp (n : ℕ) (P : Program) (list list' plan plan' : List ℕ) (k
 
 -- ---- an accepted table
 
-pub record Relaxes (cycles : Bool) (n : ℕ) (P : Program) (lim : ℕ) (list list' plan plan' : List ℕ) (r : Relaxed) : Type 0 where
+pub record Relaxes (cycles : Bool) (n : ℕ) (P : Program) (lim : ℕ) (list list' plan plan' : List ℕ) (r : Result Relaxed Refusal) : Type 0 where
   -- result, list and plan are those of the definition by trials: so limit is met exactly if one of its trials meets it
-  pub result : r ≡ relaxed_by P (relax cycles n lim P)
+  pub result : r ≡ Ok (relaxed_by P (relax cycles n lim P))
   pub listed : list' ≡ list_after P (relax cycles n lim P) list
   pub written : plan' ≡ plan_after n (relax cycles n lim P) plan
   -- the same in answer sets
-  pub answers : (k : ℕ) → r ≡ told.Answer k → GivesUp n P list list' plan plan' k
+  pub answers : (k : ℕ) → r ≡ Ok (told.Answer k) → GivesUp n P list list' plan plan' k
   -- "If the rules with heads alone have no answer set, it ends with none": and only then
-  pub none : r ≡ told.Nothing → Empty n (AnswerSet (keep headed P)) × (list' ≡ list) × (plan' ≡ plan)
+  pub none : r ≡ Ok told.Nothing → Empty n (AnswerSet (keep headed P)) × (list' ≡ list) × (plan' ≡ plan)
   -- "if one reaches it the call ends with limit"
-  pub limited : r ≡ told.Limit → ((kept : ℕ → Bool) × (o : Outcome) × (solve (base_by cycles (rules_of P kept) n) jump lim ≡ some o) × (o.result ≡ limit)) × (list' ≡ list) × (plan' ≡ plan)
+  pub limited : r ≡ Ok told.Limit → ((kept : ℕ → Bool) × (o : Outcome) × (solve (base_by cycles (rules_of P kept) n) jump lim ≡ some o) × (o.result ≡ limit)) × (list' ≡ list) × (plan' ≡ plan)
   -- where the rules with heads have an answer set and no limit is met, there is an answer
-  pub found : (X : Atoms) → AnswerSet (keep headed P) X → r ≢ told.Limit → (k : ℕ) × (r ≡ told.Answer k)
+  pub found : (X : Atoms) → AnswerSet (keep headed P) X → r ≢ Ok told.Limit → (k : ℕ) × (r ≡ Ok (told.Answer k))
   -- where the whole table has an answer set, nothing is dropped
-  pub whole : (X : Atoms) → AnswerSet P X → (k : ℕ) → r ≡ told.Answer k → k ≡ 0
+  pub whole : (X : Atoms) → AnswerSet P X → (k : ℕ) → r ≡ Ok (told.Answer k) → k ≡ 0
   -- an accepted table is not refused
   pub taken : (m i : ℕ) → relax_report_of r ≢ refusal_relaxed m i
 
 -- ---- every input
 
-pub record Relaxing (t : List ℤ) (ask : Ask) (list list' plan plan' : List ℕ) (r : Relaxed) : Type 0 where
+pub record Relaxing (t : List ℤ) (ask : Ask) (list list' plan plan' : List ℕ) (r : Result Relaxed Refusal) : Type 0 where
   pub refused : (n i : ℕ) → (relax_report_of r ≡ refusal_relaxed n i) ↔ RelaxRefused ask.cycles t (length plan) (length list) n i
   pub untouched : (n i : ℕ) → relax_report_of r ≡ refusal_relaxed n i → (list' ≡ list) × (plan' ≡ plan)
   pub relaxes : (c : Contents) → AcceptedBy ask.cycles t (Plan (length plan)) c → length (program c) ≤ length list

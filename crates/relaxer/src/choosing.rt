@@ -2,7 +2,7 @@
 // again with them, in table order; the table is not copied. Meaning: `specs/Offering.antt`.
 ghost use Rattle.std.specs.Prelude.{◌≡◌, cond, ◌||◌, ◌+◌, ◌≤◌, ◌<◌, length, set};
 ghost use Rattle.levels.specs.View.{row};
-ghost use Rattle.layout.specs.Layout.{past_at, rule_at, Laid};
+ghost use Rattle.layout.specs.Layout.{past_at, rule_at};
 ghost use Rattle.heads.specs.Heads.{list_at, Listed};
 ghost use Rattle.promises.specs.Plans.{bit_of};
 ghost use Rattle.relaxing.specs.Relaxing.{headed};
@@ -10,7 +10,7 @@ ghost use Rattle.relaxer.specs.Offering.{kept_places};
 
 use crate::kept;
 use crate::kept::Kept;
-use layout::Table;
+use layout::Accepted;
 
 // Whether the rule at `at` has a head.
 pub fn has_head(t: &[i32], at: usize) -> bool
@@ -18,7 +18,7 @@ pub fn has_head(t: &[i32], at: usize) -> bool
     ensures { result ≡ headed (rule_at t.now at) }
 {
     let head = layout::part(t, at);
-    0 < head.len()
+    !head.is_empty()
 }
 
 // Whether the rule at `at`, which has the number i, takes part.
@@ -26,41 +26,32 @@ pub fn takes_part(t: &[i32], at: usize, kept: Kept, i: usize) -> bool
     requires { (past_at t.now at ≤ length t.now) × (1 ≤ i) × (i ≤ 1024) }
     ensures { result ≡ headed (rule_at t.now at) || row kept i }
 {
-    if has_head(t, at) {
-        return true;
-    }
-    kept::has(kept, i)
+    has_head(t, at) || kept::has(kept, i)
 }
 
-// A place put at the end of list 0, which has n, where the rule takes part; how many it has then.
-fn put(lists: &mut [u16], n: usize, rule: u16, takes: bool) -> usize
-    requires { (514 + n < length lists.old) × (n ≤ 1024) }
-    ensures { (result ≡ n + bit_of takes) × (lists.new ≡ cond takes (set lists.old (514 + n) rule) lists.old) }
+// An item put at index n, where it takes part; the index after it.
+pub fn put<T: Copy>(list: &mut [T], n: usize, item: T, takes: bool) -> usize
+    requires { n < length list.old }
+    ensures { (result ≡ n + bit_of takes) × (list.new ≡ cond takes (set list.old n item) list.old) }
 {
     if takes {
-        let place = heads::BOUNDS + n;
-        lists[place] = rule;
+        list[n] = item;
         return n + 1;
     }
     n
 }
 
 // List 0 made again.
-pub fn choose(t: &[i32], tb: Table, kept: Kept, lists: &mut [u16])
-    requires { Laid t.now tb × Listed t.now tb lists.old }
-    ensures { Listed t.now tb lists.new × (list_at lists.new 0 ≡ kept_places (row kept) t.now tb) }
+pub fn choose(t: &Accepted, kept: Kept, lists: &mut [u16])
+    requires { Listed t.now.words.now t.now.places lists.old }
+    ensures { Listed t.now.words.now t.now.places lists.new × (list_at lists.new 0 ≡ kept_places (row kept) t.now.words.now t.now.places) }
 {
-    let mut at = tb.first;
-    let mut n: usize = 0;
-    let mut i: usize = 0;
-    while i < tb.rules {
-        i += 1;
-        let takes = takes_part(t, at, kept, i);
-        let more = put(lists, n, at as u16, takes);
-        n = more;
-        let next = layout::past_rule(t, at);
-        at = next;
+    let mut at = t.places.first;
+    let mut end = heads::BOUNDS;
+    for i in 0..t.places.rules {
+        let takes = takes_part(t.words, at, kept, i + 1);
+        end = put(lists, end, at as u16, takes);
+        at = layout::past_rule(t.words, at);
     }
-    let end = heads::BOUNDS + n;
     lists[1] = end as u16;
 }

@@ -7,7 +7,7 @@
 ghost use Rattle.std.specs.Prelude.{◌≡◌, not, cond, ◌||◌, ◌++◌, ◌∷◌, ◌+◌, ◌≤◌, ◌<◌, suc, length, set, drop};
 ghost use Rattle.meaning.specs.Program.{Program};
 ghost use Rattle.levels.specs.View.{row};
-ghost use Rattle.layout.specs.Layout.{rule_at, RuleLies, program_of, Laid};
+ghost use Rattle.layout.specs.Accepted.{program_in, rule_in, RuleIn};
 ghost use Rattle.heads.specs.Heads.{Listed};
 ghost use Rattle.promises.specs.Plans.{bit_of};
 ghost use Rattle.relaxing.specs.Relaxing.{rules_of, dropped_of, trial, relax};
@@ -18,11 +18,10 @@ use foundation::Candidates;
 use heads::Lists;
 use judging::Buffer;
 use kept::Kept;
-use layout::Table;
+use layout::{Accepted, Table};
 use outcome::Ending;
 use results::{Ask, Refusal, Relaxed};
 use solver::plans;
-use table::Fault;
 
 pub mod choosing;
 pub mod kept;
@@ -38,41 +37,31 @@ pub struct Offered {
 fn is_answer(e: Ending) -> bool
     ensures { result ≡ is_answer e }
 {
-    match e {
-        Ending::Answer => true,
-        Ending::Nothing => false,
-        Ending::Limit => false,
-    }
+    matches!(e, Ending::Answer)
 }
 
 fn is_nothing(e: Ending) -> bool
     ensures { result ≡ is_nothing e }
 {
-    match e {
-        Ending::Answer => false,
-        Ending::Nothing => true,
-        Ending::Limit => false,
-    }
+    matches!(e, Ending::Nothing)
 }
 
 // A trial: the search over the rules that have a head and the constraints in `kept`.
 fn attempt(
-    t: &[i32],
-    tb: Table,
+    t: &Accepted,
     cycles: bool,
     limit: u32,
     kept: Kept,
     lists: &mut Lists,
     candidates: &mut Candidates,
 ) -> Offered
-    requires { Laid t.now tb × Listed t.now tb lists.old }
-    ensures { (result.kept ≡ kept) × (trial_of tb.atoms result ≡ trial cycles tb.atoms limit (rules_of (program_of t.now tb) (row kept))) × Listed t.now tb lists.new }
+    requires { Listed t.now.words.now t.now.places lists.old }
+    ensures { (result.kept ≡ kept) × (trial_of t.now.places.atoms result ≡ trial cycles t.now.places.atoms limit (rules_of (program_in t.now) (row kept))) × Listed t.now.words.now t.now.places lists.new }
 {
-    choosing::choose(t, tb, kept, lists);
-    let found = jumping::search(t, tb, cycles, lists, limit, candidates);
+    choosing::choose(t, kept, lists);
+    let found = jumping::search(t, cycles, lists, limit, candidates);
     let ending = found.ending;
-    let it = found.it;
-    let values = it.values;
+    let values = found.it.values;
     Offered {
         ending,
         kept,
@@ -82,8 +71,7 @@ fn attempt(
 
 // The rule at `at`, which has the number i, is offered if it is a constraint; after a trial without an answer nothing is offered.
 fn step(
-    t: &[i32],
-    tb: Table,
+    t: &Accepted,
     cycles: bool,
     limit: u32,
     at: usize,
@@ -92,22 +80,19 @@ fn step(
     lists: &mut Lists,
     candidates: &mut Candidates,
 ) -> Offered
-    requires { Laid t.now tb × Listed t.now tb lists.old × RuleLies tb.atoms tb.aggregates t.now at × (1 ≤ i) × (i ≤ 1024) }
-    ensures { ((rest : Program) → goes_on (trial cycles tb.atoms limit) (program_of t.now tb) tb.atoms result (suc i) rest
-        ≡ goes_on (trial cycles tb.atoms limit) (program_of t.now tb) tb.atoms held i (rule_at t.now at ∷ rest)) × Listed t.now tb lists.new }
+    requires { Listed t.now.words.now t.now.places lists.old × RuleIn t.now at × (1 ≤ i) × (i ≤ 1024) }
+    ensures { ((rest : Program) → goes_on (trial cycles t.now.places.atoms limit) (program_in t.now) t.now.places.atoms result (suc i) rest
+        ≡ goes_on (trial cycles t.now.places.atoms limit) (program_in t.now) t.now.places.atoms held i (rule_in t.now at ∷ rest)) × Listed t.now.words.now t.now.places lists.new }
 {
-    let ending = held.ending;
-    if !is_answer(ending) {
+    if !is_answer(held.ending) {
         return held;
     }
-    if choosing::has_head(t, at) {
+    if choosing::has_head(t.words, at) {
         return held;
     }
-    let had = held.kept;
-    let kept = kept::with(had, i);
-    let tried = attempt(t, tb, cycles, limit, kept, lists, candidates);
-    let end = tried.ending;
-    if is_nothing(end) {
+    let kept = kept::with(held.kept, i);
+    let tried = attempt(t, cycles, limit, kept, lists, candidates);
+    if is_nothing(tried.ending) {
         return held;
     }
     tried
@@ -115,84 +100,61 @@ fn step(
 
 // All constraints offered in table order.
 fn offer_all(
-    t: &[i32],
-    tb: Table,
+    t: &Accepted,
     cycles: bool,
     limit: u32,
     lists: &mut Lists,
     candidates: &mut Candidates,
 ) -> Offered
-    requires { Laid t.now tb × Listed t.now tb lists.old }
-    ensures { held_by tb.atoms result ≡ relax cycles tb.atoms limit (program_of t.now tb) }
+    requires { Listed t.now.words.now t.now.places lists.old }
+    ensures { held_by t.now.places.atoms result ≡ relax cycles t.now.places.atoms limit (program_in t.now) }
 {
     let none = kept::nothing();
-    let mut held = attempt(t, tb, cycles, limit, none, lists, candidates);
-    let mut at = tb.first;
-    let mut i: usize = 0;
-    while i < tb.rules {
-        i += 1;
-        held = step(t, tb, cycles, limit, at, i, held, lists, candidates);
-        let next = layout::past_rule(t, at);
-        at = next;
+    let mut held = attempt(t, cycles, limit, none, lists, candidates);
+    let mut at = t.places.first;
+    for i in 0..t.places.rules {
+        held = step(t, cycles, limit, at, i + 1, held, lists, candidates);
+        at = layout::past_rule(t.words, at);
     }
     held
 }
 
-// A number put at the end of the list, which has n, where the rule is dropped; how many it has then.
-fn put(list: &mut [u32], n: usize, number: u32, dropped: bool) -> usize
-    requires { (n < length list.old) × (n ≤ 1024) }
-    ensures { (result ≡ n + bit_of dropped) × (list.new ≡ cond dropped (set list.old n number) list.old) }
-{
-    if dropped {
-        list[n] = number;
-        return n + 1;
-    }
-    n
-}
-
 // The numbers of the rules that are dropped, ascending, and how many there are; the rest of the list keeps its contents.
-fn write_dropped(t: &[i32], tb: Table, kept: Kept, dropped: &mut [u32]) -> usize
-    requires { Laid t.now tb × (tb.rules ≤ length dropped.old) }
-    ensures { (result ≡ length (dropped_of (program_of t.now tb) (row kept)))
-        × (dropped.new ≡ dropped_of (program_of t.now tb) (row kept) ++ drop (length (dropped_of (program_of t.now tb) (row kept))) dropped.old) }
+fn write_dropped(t: &Accepted, kept: Kept, dropped: &mut [u32]) -> usize
+    requires { (t.now.places.rules ≤ length dropped.old) }
+    ensures { (result ≡ length (dropped_of (program_in t.now) (row kept)))
+        × (dropped.new ≡ dropped_of (program_in t.now) (row kept) ++ drop (length (dropped_of (program_in t.now) (row kept))) dropped.old) }
 {
-    let mut at = tb.first;
+    let mut at = t.places.first;
     let mut n: usize = 0;
-    let mut i: usize = 0;
-    while i < tb.rules {
-        i += 1;
-        let takes = choosing::takes_part(t, at, kept, i);
-        let more = put(dropped, n, i as u32, !takes);
-        n = more;
-        let next = layout::past_rule(t, at);
-        at = next;
+    for i in 0..t.places.rules {
+        let number = i + 1;
+        let takes = choosing::takes_part(t.words, at, kept, number);
+        n = choosing::put(dropped, n, number as u32, !takes);
+        at = layout::past_rule(t.words, at);
     }
     n
 }
 
 // What to give up of an accepted table, for a list with a place for each rule.
 fn give_up(
-    t: &[i32],
-    tb: Table,
+    t: &Accepted,
     ask: Ask,
     dropped: &mut [u32],
     plan: &mut [u8],
     lists: &mut Lists,
     candidates: &mut Candidates,
 ) -> Relaxed
-    requires { Laid t.now tb × Listed t.now tb lists.old × (tb.rules ≤ length dropped.old) × (256 ≤ length plan.old) }
-    ensures { (result ≡ relaxed_by (program_of t.now tb) (relax ask.cycles tb.atoms ask.limit (program_of t.now tb)))
-        × (dropped.new ≡ list_after (program_of t.now tb) (relax ask.cycles tb.atoms ask.limit (program_of t.now tb)) dropped.old)
-        × (plan.new ≡ plan_after tb.atoms (relax ask.cycles tb.atoms ask.limit (program_of t.now tb)) plan.old) }
+    requires { Listed t.now.words.now t.now.places lists.old × (t.now.places.rules ≤ length dropped.old) × (256 ≤ length plan.old) }
+    ensures { (result ≡ relaxed_by (program_in t.now) (relax ask.cycles t.now.places.atoms ask.limit (program_in t.now)))
+        × (dropped.new ≡ list_after (program_in t.now) (relax ask.cycles t.now.places.atoms ask.limit (program_in t.now)) dropped.old)
+        × (plan.new ≡ plan_after t.now.places.atoms (relax ask.cycles t.now.places.atoms ask.limit (program_in t.now)) plan.old) }
 {
-    let held = offer_all(t, tb, ask.cycles, ask.limit, lists, candidates);
-    let ending = held.ending;
-    match ending {
+    let held = offer_all(t, ask.cycles, ask.limit, lists, candidates);
+    match held.ending {
         Ending::Answer => {
-            let values = held.values;
-            plans::write(values, tb.atoms, plan);
-            let kept = held.kept;
-            let number = write_dropped(t, tb, kept, dropped);
+            plans::write(held.values, t.places.atoms, plan);
+            let number = write_dropped(t, held.kept, dropped);
             Relaxed::Answer(number)
         }
         Ending::Nothing => Relaxed::Nothing,
@@ -210,26 +172,24 @@ pub fn relax_with(
     plan: &mut [u8],
     lists: &mut Lists,
     candidates: &mut Candidates,
-) -> Relaxed
+) -> Result<Relaxed, Refusal>
     ensures { Relaxing words.now ask dropped.old dropped.new plan.old plan.new result }
 {
-    let room = plan.len();
-    let judged = judging::judge_in(words, ask.cycles, Buffer::Plan(room), lists);
-    let fault = judged.fault;
-    match fault {
-        Fault::Refused(f) => Relaxed::Refused(f),
-        Fault::Nothing => {
-            let tb = judged.table;
-            if dropped.len() < tb.rules {
-                return Relaxed::Refused(Refusal::ShortList);
-            }
-            give_up(words, tb, ask, dropped, plan, lists, candidates)
-        }
+    let places = judging::judge_in(words, ask.cycles, Buffer::Plan(plan.len()), lists)?;
+    if dropped.len() < places.rules {
+        return Err(Refusal::ShortList);
     }
+    let t = Accepted { words, places };
+    Ok(give_up(&t, ask, dropped, plan, lists, candidates))
 }
 
 // The same with memory of its own.
-pub fn relax(words: &[i32], ask: Ask, dropped: &mut [u32], plan: &mut [u8]) -> Relaxed
+pub fn relax(
+    words: &[i32],
+    ask: Ask,
+    dropped: &mut [u32],
+    plan: &mut [u8],
+) -> Result<Relaxed, Refusal>
     ensures { Relaxing words.now ask dropped.old dropped.new plan.old plan.new result }
 {
     let mut lists = [0u16; heads::SIZE];

@@ -6,8 +6,9 @@
 --   reported               "a lent pair of numbers": the first two places of the report, if it has two; else nothing is written
 --   with_third              the third place, if there is one
 -- Assumes nothing.
-use Rattle.std.specs.Prelude.{Bool, not, List, [], ◌∷◌, ℕ, min, eqb}
+use Rattle.std.specs.Prelude.{Bool, not, List, [], ◌∷◌, ℕ, min, eqb, Result, Ok, Err}
 use Rattle.results.specs.Results.{number_of, place_of, counts_of}
+use Rattle.results.specs.declared.Refusal.{Refusal}
 use Rattle.results.specs.declared.Ask.{Ask}
 use Rattle.results.specs.declared.Solved.{Solved}
 use Rattle.results.specs.declared.Solved.TheVariants as solved
@@ -21,24 +22,24 @@ ask_of mode lim = record { cycles = mode_of mode; limit = lim }
 abbrev pub narrow : ℕ → ℕ
 narrow n = min n 4294967295
 
-abbrev pub first_of : Solved → ℕ
-first_of (solved.Answer k) = k.choices
-first_of (solved.Nothing k) = k.choices
-first_of (solved.Limit k) = k.choices
-first_of (solved.Refused f) = number_of f
+abbrev pub first_of : Result Solved Refusal → ℕ
+first_of (Ok (solved.Answer k)) = k.choices
+first_of (Ok (solved.Nothing k)) = k.choices
+first_of (Ok (solved.Limit k)) = k.choices
+first_of (Err f) = number_of f
 
-abbrev pub second_of : Solved → ℕ
-second_of (solved.Answer k) = k.skips
-second_of (solved.Nothing k) = k.skips
-second_of (solved.Limit k) = k.skips
-second_of (solved.Refused f) = narrow (place_of f)
+abbrev pub second_of : Result Solved Refusal → ℕ
+second_of (Ok (solved.Answer k)) = k.skips
+second_of (Ok (solved.Nothing k)) = k.skips
+second_of (Ok (solved.Limit k)) = k.skips
+second_of (Err f) = narrow (place_of f)
 
 abbrev pub reported : ℕ → ℕ → List ℕ → List ℕ
 reported m n [] = []
 reported m n (a ∷ []) = a ∷ []
 reported m n (a ∷ b ∷ rest) = m ∷ n ∷ rest
 
-abbrev pub third_of : Solved → ℕ
+abbrev pub third_of : Result Solved Refusal → ℕ
 third_of r = (counts_of r).passes
 
 abbrev pub with_third : ℕ → List ℕ → List ℕ

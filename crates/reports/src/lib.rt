@@ -6,19 +6,19 @@ ghost use Rattle.std.specs.Prelude.{◌≡◌};
 ghost use Rattle.reports.specs.Report.{narrow, first_of, second_of, third_of, reported, with_third};
 ghost use Rattle.results.specs.Results.{kind_of};
 
-use results::Solved;
+use results::{Refusal, Solved};
 
 pub mod whys;
 
 // The kind of a result.
-pub fn kind(solved: Solved) -> u32
+pub fn kind(solved: Result<Solved, Refusal>) -> u32
     ensures { result ≡ kind_of solved }
 {
     match solved {
-        Solved::Answer(_) => 0,
-        Solved::Nothing(_) => 1,
-        Solved::Limit(_) => 2,
-        Solved::Refused(_) => 3,
+        Ok(Solved::Answer(_)) => 0,
+        Ok(Solved::Nothing(_)) => 1,
+        Ok(Solved::Limit(_)) => 2,
+        Err(_) => 3,
     }
 }
 
@@ -26,45 +26,39 @@ pub fn kind(solved: Solved) -> u32
 pub fn narrowed(place: usize) -> u32
     ensures { result ≡ narrow place }
 {
-    if 4294967295 < place {
-        return 4294967295;
-    }
-    place as u32
+    u32::try_from(place).unwrap_or(u32::MAX)
 }
 
 // The choices, or the number of a refusal.
-pub fn first(solved: Solved) -> u32
+pub fn first(solved: Result<Solved, Refusal>) -> u32
     ensures { result ≡ first_of solved }
 {
     match solved {
-        Solved::Answer(counts) => counts.choices,
-        Solved::Nothing(counts) => counts.choices,
-        Solved::Limit(counts) => counts.choices,
-        Solved::Refused(f) => results::number(f),
+        Ok(Solved::Answer(counts) | Solved::Nothing(counts) | Solved::Limit(counts)) =>
+            counts.choices,
+        Err(f) => f.number(),
     }
 }
 
 // The skips, or the place of a refusal.
-pub fn second(solved: Solved) -> u32
+pub fn second(solved: Result<Solved, Refusal>) -> u32
     ensures { result ≡ second_of solved }
 {
     match solved {
-        Solved::Answer(counts) => counts.skips,
-        Solved::Nothing(counts) => counts.skips,
-        Solved::Limit(counts) => counts.skips,
-        Solved::Refused(f) => narrowed(results::place(f)),
+        Ok(Solved::Answer(counts) | Solved::Nothing(counts) | Solved::Limit(counts)) =>
+            counts.skips,
+        Err(f) => narrowed(f.place()),
     }
 }
 
 // The greatest number of passes, or 0 of a refusal.
-pub fn third(solved: Solved) -> u32
+pub fn third(solved: Result<Solved, Refusal>) -> u32
     ensures { result ≡ third_of solved }
 {
     match solved {
-        Solved::Answer(counts) => counts.passes,
-        Solved::Nothing(counts) => counts.passes,
-        Solved::Limit(counts) => counts.passes,
-        Solved::Refused(_) => 0,
+        Ok(Solved::Answer(counts) | Solved::Nothing(counts) | Solved::Limit(counts)) =>
+            counts.passes,
+        Err(_) => 0,
     }
 }
 

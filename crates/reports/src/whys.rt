@@ -12,13 +12,8 @@ pub fn write(whys: [Why; 256], numbers: &mut [u16])
     if numbers.len() < 512 {
         return;
     }
-    let mut i: usize = 0;
-    while i < 256 {
-        let why = whys[i];
-        let at = 2 * i;
-        let next = at + 1;
-        numbers[at] = why.round;
-        numbers[next] = why.rule;
-        i += 1;
+    for (i, why) in whys.iter().enumerate() {
+        numbers[2 * i] = why.round;
+        numbers[2 * i + 1] = why.rule;
     }
 }

@@ -8,19 +8,16 @@ use mathlib.Core.List.{[], ◌∷◌}
 use Prim.Native.Nat.{ℕ}
 use native.Mathlib.Omega.{arith}
 use lib.ListN.{get_or}
+use Rattle.std.specs.Prelude.{Bool, true, false, ⊤, Result, Ok, Err}
 use Rattle.results.specs.declared.Refusal.{Refusal}
 use Rattle.results.specs.declared.Refusal.TheVariants as refusal
 use Rattle.results.specs.declared.Solved.{Solved}
 use Rattle.results.specs.declared.Solved.TheVariants as solved
-use Rattle.results.specs.declared.Checked.{Checked}
-use Rattle.results.specs.declared.Checked.TheVariants as checked
 use Rattle.results.specs.declared.Listed.{Listed}
 use Rattle.results.specs.declared.Listed.TheVariants as listed
 use Rattle.results.specs.Results.{number_of, place_of, Report, report_of, refusal_report, CheckReport, check_report_of, refusal_check, ListReport, list_report_of, refusal_listing, RelaxReport, relax_report_of, refusal_relaxed, pinned_report_of}
 use Rattle.results.specs.declared.Relaxed.{Relaxed}
 use Rattle.results.specs.declared.Relaxed.TheVariants as relaxed
-use Rattle.results.specs.declared.Pinned.{Pinned}
-use Rattle.results.specs.declared.Pinned.TheVariants as changed
 
 -- the refusal with a number and a place; 0, 18 and 19 are no refusal's number
 abbrev refusal_at : ℕ → ℕ → Refusal
@@ -92,93 +89,93 @@ refusal_determined f g n i = sym (refusal_back f) ∙ ap (λ (k : ℕ). refusal_
 kinds : {x y : Report} → x ≡ y → x.kind ≡ y.kind
 kinds e = ap (λ (r : Report). r.kind) e
 
-pub report_refusal : (r : Solved) (n i : ℕ) → report_of r ≡ refusal_report n i → (f : Refusal) × (r ≡ solved.Refused f) × (number_of f ≡ n) × (place_of f ≡ i)
-report_refusal (solved.Answer k) n i e = absurd (let z = kinds e in omega arith)
-report_refusal (solved.Nothing k) n i e = absurd (let z = kinds e in omega arith)
-report_refusal (solved.Limit k) n i e = absurd (let z = kinds e in omega arith)
-report_refusal (solved.Refused f) n i e = (f, refl, ap (λ (r : Report). r.number) e, ap (λ (r : Report). r.place) e)
+pub report_refusal : (r : Result Solved Refusal) (n i : ℕ) → report_of r ≡ refusal_report n i → (f : Refusal) × (r ≡ Err f) × (number_of f ≡ n) × (place_of f ≡ i)
+report_refusal (Ok (solved.Answer k)) n i e = absurd (let z = kinds e in omega arith)
+report_refusal (Ok (solved.Nothing k)) n i e = absurd (let z = kinds e in omega arith)
+report_refusal (Ok (solved.Limit k)) n i e = absurd (let z = kinds e in omega arith)
+report_refusal (Err f) n i e = (f, refl, ap (λ (r : Report). r.number) e, ap (λ (r : Report). r.place) e)
 
-pub report_determines : (r s : Solved) → report_of r ≡ report_of s → r ≡ s
-report_determines (solved.Answer k) (solved.Answer k') e = ap (λ (r : Report). solved.Answer r.counts) e
-report_determines (solved.Answer k) (solved.Nothing k') e = absurd (let z = kinds e in omega arith)
-report_determines (solved.Answer k) (solved.Limit k') e = absurd (let z = kinds e in omega arith)
-report_determines (solved.Answer k) (solved.Refused f) e = absurd (let z = kinds e in omega arith)
-report_determines (solved.Nothing k) (solved.Answer k') e = absurd (let z = kinds e in omega arith)
-report_determines (solved.Nothing k) (solved.Nothing k') e = ap (λ (r : Report). solved.Nothing r.counts) e
-report_determines (solved.Nothing k) (solved.Limit k') e = absurd (let z = kinds e in omega arith)
-report_determines (solved.Nothing k) (solved.Refused f) e = absurd (let z = kinds e in omega arith)
-report_determines (solved.Limit k) (solved.Answer k') e = absurd (let z = kinds e in omega arith)
-report_determines (solved.Limit k) (solved.Nothing k') e = absurd (let z = kinds e in omega arith)
-report_determines (solved.Limit k) (solved.Limit k') e = ap (λ (r : Report). solved.Limit r.counts) e
-report_determines (solved.Limit k) (solved.Refused f) e = absurd (let z = kinds e in omega arith)
-report_determines (solved.Refused f) s e =
+pub report_determines : (r s : Result Solved Refusal) → report_of r ≡ report_of s → r ≡ s
+report_determines (Ok (solved.Answer k)) (Ok (solved.Answer k')) e = ap (λ (r : Report). Ok (solved.Answer r.counts)) e
+report_determines (Ok (solved.Answer k)) (Ok (solved.Nothing k')) e = absurd (let z = kinds e in omega arith)
+report_determines (Ok (solved.Answer k)) (Ok (solved.Limit k')) e = absurd (let z = kinds e in omega arith)
+report_determines (Ok (solved.Answer k)) (Err f) e = absurd (let z = kinds e in omega arith)
+report_determines (Ok (solved.Nothing k)) (Ok (solved.Answer k')) e = absurd (let z = kinds e in omega arith)
+report_determines (Ok (solved.Nothing k)) (Ok (solved.Nothing k')) e = ap (λ (r : Report). Ok (solved.Nothing r.counts)) e
+report_determines (Ok (solved.Nothing k)) (Ok (solved.Limit k')) e = absurd (let z = kinds e in omega arith)
+report_determines (Ok (solved.Nothing k)) (Err f) e = absurd (let z = kinds e in omega arith)
+report_determines (Ok (solved.Limit k)) (Ok (solved.Answer k')) e = absurd (let z = kinds e in omega arith)
+report_determines (Ok (solved.Limit k)) (Ok (solved.Nothing k')) e = absurd (let z = kinds e in omega arith)
+report_determines (Ok (solved.Limit k)) (Ok (solved.Limit k')) e = ap (λ (r : Report). Ok (solved.Limit r.counts)) e
+report_determines (Ok (solved.Limit k)) (Err f) e = absurd (let z = kinds e in omega arith)
+report_determines (Err f) s e =
     let w = report_refusal s (number_of f) (place_of f) (sym e) in
-    ap solved.Refused (refusal_determined f w.0 (sym w.2) (sym w.3)) ∙ sym w.1
+    ap Err (refusal_determined f w.0 (sym w.2) (sym w.3)) ∙ sym w.1
 
 -- ---- results of the check
 
 checks : {x y : CheckReport} → x ≡ y → x.kind ≡ y.kind
 checks e = ap (λ (r : CheckReport). r.kind) e
 
-pub check_refusal : (r : Checked) (n i : ℕ) → check_report_of r ≡ refusal_check n i → (f : Refusal) × (r ≡ checked.Refused f) × (number_of f ≡ n) × (place_of f ≡ i)
-check_refusal checked.Yes n i e = absurd (let z = checks e in omega arith)
-check_refusal checked.No n i e = absurd (let z = checks e in omega arith)
-check_refusal (checked.Refused f) n i e = (f, refl, ap (λ (r : CheckReport). r.number) e, ap (λ (r : CheckReport). r.place) e)
+pub check_refusal : (r : Result Bool Refusal) (n i : ℕ) → check_report_of r ≡ refusal_check n i → (f : Refusal) × (r ≡ Err f) × (number_of f ≡ n) × (place_of f ≡ i)
+check_refusal (Ok true) n i e = absurd (let z = checks e in omega arith)
+check_refusal (Ok false) n i e = absurd (let z = checks e in omega arith)
+check_refusal (Err f) n i e = (f, refl, ap (λ (r : CheckReport). r.number) e, ap (λ (r : CheckReport). r.place) e)
 
-pub check_determines : (r s : Checked) → check_report_of r ≡ check_report_of s → r ≡ s
-check_determines checked.Yes checked.Yes e = refl
-check_determines checked.Yes checked.No e = absurd (let z = checks e in omega arith)
-check_determines checked.Yes (checked.Refused f) e = absurd (let z = checks e in omega arith)
-check_determines checked.No checked.Yes e = absurd (let z = checks e in omega arith)
-check_determines checked.No checked.No e = refl
-check_determines checked.No (checked.Refused f) e = absurd (let z = checks e in omega arith)
-check_determines (checked.Refused f) s e =
+pub check_determines : (r s : Result Bool Refusal) → check_report_of r ≡ check_report_of s → r ≡ s
+check_determines (Ok true) (Ok true) e = refl
+check_determines (Ok true) (Ok false) e = absurd (let z = checks e in omega arith)
+check_determines (Ok true) (Err f) e = absurd (let z = checks e in omega arith)
+check_determines (Ok false) (Ok true) e = absurd (let z = checks e in omega arith)
+check_determines (Ok false) (Ok false) e = refl
+check_determines (Ok false) (Err f) e = absurd (let z = checks e in omega arith)
+check_determines (Err f) s e =
     let w = check_refusal s (number_of f) (place_of f) (sym e) in
-    ap checked.Refused (refusal_determined f w.0 (sym w.2) (sym w.3)) ∙ sym w.1
+    ap Err (refusal_determined f w.0 (sym w.2) (sym w.3)) ∙ sym w.1
 
 -- ---- results of a listing
 
 list_kinds : {x y : ListReport} → x ≡ y → x.kind ≡ y.kind
 list_kinds e = ap (λ (r : ListReport). r.kind) e
 
-pub list_refusal : (r : Listed) (n i : ℕ) → list_report_of r ≡ refusal_listing n i → (f : Refusal) × (r ≡ listed.Refused f) × (number_of f ≡ n) × (place_of f ≡ i)
-list_refusal (listed.Complete m k) n i e = absurd (let z = list_kinds e in omega arith)
-list_refusal (listed.Full m k) n i e = absurd (let z = list_kinds e in omega arith)
-list_refusal (listed.Limit m k) n i e = absurd (let z = list_kinds e in omega arith)
-list_refusal (listed.Refused f) n i e = (f, refl, ap (λ (r : ListReport). r.number) e, ap (λ (r : ListReport). r.place) e)
+pub list_refusal : (r : Result Listed Refusal) (n i : ℕ) → list_report_of r ≡ refusal_listing n i → (f : Refusal) × (r ≡ Err f) × (number_of f ≡ n) × (place_of f ≡ i)
+list_refusal (Ok (listed.Complete m k)) n i e = absurd (let z = list_kinds e in omega arith)
+list_refusal (Ok (listed.Full m k)) n i e = absurd (let z = list_kinds e in omega arith)
+list_refusal (Ok (listed.Limit m k)) n i e = absurd (let z = list_kinds e in omega arith)
+list_refusal (Err f) n i e = (f, refl, ap (λ (r : ListReport). r.number) e, ap (λ (r : ListReport). r.place) e)
 
-pub refusal_determines : (r s : Listed) (n i : ℕ) → list_report_of r ≡ refusal_listing n i → list_report_of s ≡ refusal_listing n i → r ≡ s
+pub refusal_determines : (r s : Result Listed Refusal) (n i : ℕ) → list_report_of r ≡ refusal_listing n i → list_report_of s ≡ refusal_listing n i → r ≡ s
 refusal_determines r s n i e h =
     let x = list_refusal r n i e in
     let y = list_refusal s n i h in
-    x.1 ∙ ap listed.Refused (refusal_determined x.0 y.0 (x.2 ∙ sym y.2) (x.3 ∙ sym y.3)) ∙ sym y.1
+    x.1 ∙ ap Err (refusal_determined x.0 y.0 (x.2 ∙ sym y.2) (x.3 ∙ sym y.3)) ∙ sym y.1
 
 -- ---- results of giving up constraints
 
-pub relax_refusal : (r : Relaxed) (n i : ℕ) → relax_report_of r ≡ refusal_relaxed n i → (f : Refusal) × (r ≡ relaxed.Refused f) × (number_of f ≡ n) × (place_of f ≡ i)
-relax_refusal (relaxed.Answer k) n i e = absurd (let z = ap (λ (r : RelaxReport). r.kind) e in omega arith)
-relax_refusal relaxed.Nothing n i e = absurd (let z = ap (λ (r : RelaxReport). r.kind) e in omega arith)
-relax_refusal relaxed.Limit n i e = absurd (let z = ap (λ (r : RelaxReport). r.kind) e in omega arith)
-relax_refusal (relaxed.Refused f) n i e = (f, refl, ap (λ (r : RelaxReport). r.number) e, ap (λ (r : RelaxReport). r.place) e)
+pub relax_refusal : (r : Result Relaxed Refusal) (n i : ℕ) → relax_report_of r ≡ refusal_relaxed n i → (f : Refusal) × (r ≡ Err f) × (number_of f ≡ n) × (place_of f ≡ i)
+relax_refusal (Ok (relaxed.Answer k)) n i e = absurd (let z = ap (λ (r : RelaxReport). r.kind) e in omega arith)
+relax_refusal (Ok relaxed.Nothing) n i e = absurd (let z = ap (λ (r : RelaxReport). r.kind) e in omega arith)
+relax_refusal (Ok relaxed.Limit) n i e = absurd (let z = ap (λ (r : RelaxReport). r.kind) e in omega arith)
+relax_refusal (Err f) n i e = (f, refl, ap (λ (r : RelaxReport). r.number) e, ap (λ (r : RelaxReport). r.place) e)
 
-pub relax_determines : (r s : Relaxed) (n i : ℕ) → relax_report_of r ≡ refusal_relaxed n i → relax_report_of s ≡ refusal_relaxed n i → r ≡ s
+pub relax_determines : (r s : Result Relaxed Refusal) (n i : ℕ) → relax_report_of r ≡ refusal_relaxed n i → relax_report_of s ≡ refusal_relaxed n i → r ≡ s
 relax_determines r s n i e h =
     let x = relax_refusal r n i e in
     let y = relax_refusal s n i h in
-    x.1 ∙ ap relaxed.Refused (refusal_determined x.0 y.0 (x.2 ∙ sym y.2) (x.3 ∙ sym y.3)) ∙ sym y.1
+    x.1 ∙ ap Err (refusal_determined x.0 y.0 (x.2 ∙ sym y.2) (x.3 ∙ sym y.3)) ∙ sym y.1
 
 -- ---- results of a call that changes a session
 
-pub pinned_refusal : (r : Pinned) (n i : ℕ) → pinned_report_of r ≡ refusal_check n i → (f : Refusal) × (r ≡ changed.Refused f) × (number_of f ≡ n) × (place_of f ≡ i)
-pinned_refusal changed.Done n i e = absurd (let z = checks e in omega arith)
-pinned_refusal (changed.Refused f) n i e = (f, refl, ap (λ (r : CheckReport). r.number) e, ap (λ (r : CheckReport). r.place) e)
+pub pinned_refusal : (r : Result ⊤ Refusal) (n i : ℕ) → pinned_report_of r ≡ refusal_check n i → (f : Refusal) × (r ≡ Err f) × (number_of f ≡ n) × (place_of f ≡ i)
+pinned_refusal (Ok d) n i e = absurd (let z = checks e in omega arith)
+pinned_refusal (Err f) n i e = (f, refl, ap (λ (r : CheckReport). r.number) e, ap (λ (r : CheckReport). r.place) e)
 
-pub pinned_determines : (r s : Pinned) → pinned_report_of r ≡ pinned_report_of s → r ≡ s
-pinned_determines changed.Done changed.Done e = refl
-pinned_determines changed.Done (changed.Refused f) e = absurd (let z = checks e in omega arith)
-pinned_determines (changed.Refused f) s e =
+pub pinned_determines : (r s : Result ⊤ Refusal) → pinned_report_of r ≡ pinned_report_of s → r ≡ s
+pinned_determines (Ok d) (Ok d') e = refl
+pinned_determines (Ok d) (Err f) e = absurd (let z = checks e in omega arith)
+pinned_determines (Err f) s e =
     let w = pinned_refusal s (number_of f) (place_of f) (sym e) in
-    ap changed.Refused (refusal_determined f w.0 (sym w.2) (sym w.3)) ∙ sym w.1
+    ap Err (refusal_determined f w.0 (sym w.2) (sym w.3)) ∙ sym w.1
 
 -- ---- the public functions
 

@@ -8,20 +8,16 @@
 --   pinned_report_of       what each result of a call that changes a session says (02, request 10); told as that of the check
 --   kind_of, counts_of, check_kind, list_kind, listed_of, list_counts, pinned_kind   parts of these
 -- Assumes nothing.
-use Rattle.std.specs.Prelude.{ℕ}
+use Rattle.std.specs.Prelude.{ℕ, Bool, true, false, ⊤, Result, Ok, Err}
 use Rattle.results.specs.declared.Refusal.{Refusal}
 use Rattle.results.specs.declared.Refusal.TheVariants as refusal
 use Rattle.results.specs.declared.Counts.{Counts}
 use Rattle.results.specs.declared.Solved.{Solved}
 use Rattle.results.specs.declared.Solved.TheVariants as solved
-use Rattle.results.specs.declared.Checked.{Checked}
-use Rattle.results.specs.declared.Checked.TheVariants as checked
 use Rattle.results.specs.declared.Listed.{Listed}
 use Rattle.results.specs.declared.Listed.TheVariants as listed
 use Rattle.results.specs.declared.Relaxed.{Relaxed}
 use Rattle.results.specs.declared.Relaxed.TheVariants as relaxed
-use Rattle.results.specs.declared.Pinned.{Pinned}
-use Rattle.results.specs.declared.Pinned.TheVariants as changed
 
 abbrev pub number_of : Refusal → ℕ
 number_of refusal.TooManyWords = 1
@@ -87,20 +83,20 @@ pub record Report : Type 0 where
 abbrev pub no_counts : Counts
 no_counts = record { choices = 0; skips = 0; passes = 0 }
 
-abbrev pub report_of : Solved → Report
-report_of (solved.Answer k) = record { kind = 0; number = 0; place = 0; counts = k }
-report_of (solved.Nothing k) = record { kind = 1; number = 0; place = 0; counts = k }
-report_of (solved.Limit k) = record { kind = 2; number = 0; place = 0; counts = k }
-report_of (solved.Refused f) = record { kind = 3; number = number_of f; place = place_of f; counts = no_counts }
+abbrev pub report_of : Result Solved Refusal → Report
+report_of (Ok (solved.Answer k)) = record { kind = 0; number = 0; place = 0; counts = k }
+report_of (Ok (solved.Nothing k)) = record { kind = 1; number = 0; place = 0; counts = k }
+report_of (Ok (solved.Limit k)) = record { kind = 2; number = 0; place = 0; counts = k }
+report_of (Err f) = record { kind = 3; number = number_of f; place = place_of f; counts = no_counts }
 
 -- refused with this number and place
 abbrev pub refusal_report : ℕ → ℕ → Report
 refusal_report n i = record { kind = 3; number = n; place = i; counts = no_counts }
 
-abbrev pub kind_of : Solved → ℕ
+abbrev pub kind_of : Result Solved Refusal → ℕ
 kind_of r = (report_of r).kind
 
-abbrev pub counts_of : Solved → Counts
+abbrev pub counts_of : Result Solved Refusal → Counts
 counts_of r = (report_of r).counts
 
 -- ---- what the check says: "yes, no or refused with number and place"
@@ -111,15 +107,15 @@ pub record CheckReport : Type 0 where
   pub number : ℕ
   pub place : ℕ
 
-abbrev pub check_report_of : Checked → CheckReport
-check_report_of checked.Yes = record { kind = 0; number = 0; place = 0 }
-check_report_of checked.No = record { kind = 1; number = 0; place = 0 }
-check_report_of (checked.Refused f) = record { kind = 3; number = number_of f; place = place_of f }
+abbrev pub check_report_of : Result Bool Refusal → CheckReport
+check_report_of (Ok true) = record { kind = 0; number = 0; place = 0 }
+check_report_of (Ok false) = record { kind = 1; number = 0; place = 0 }
+check_report_of (Err f) = record { kind = 3; number = number_of f; place = place_of f }
 
 abbrev pub refusal_check : ℕ → ℕ → CheckReport
 refusal_check n i = record { kind = 3; number = n; place = i }
 
-abbrev pub check_kind : Checked → ℕ
+abbrev pub check_kind : Result Bool Refusal → ℕ
 check_kind r = (check_report_of r).kind
 
 -- ---- what a listing says (request 7): "Ends are complete, full and limit", "with the number listed, choices and skips", and the passes
@@ -132,23 +128,23 @@ pub record ListReport : Type 0 where
   pub place : ℕ
   pub counts : Counts
 
-abbrev pub list_report_of : Listed → ListReport
-list_report_of (listed.Complete m k) = record { kind = 0; listed = m; number = 0; place = 0; counts = k }
-list_report_of (listed.Full m k) = record { kind = 1; listed = m; number = 0; place = 0; counts = k }
-list_report_of (listed.Limit m k) = record { kind = 2; listed = m; number = 0; place = 0; counts = k }
-list_report_of (listed.Refused f) = record { kind = 3; listed = 0; number = number_of f; place = place_of f; counts = no_counts }
+abbrev pub list_report_of : Result Listed Refusal → ListReport
+list_report_of (Ok (listed.Complete m k)) = record { kind = 0; listed = m; number = 0; place = 0; counts = k }
+list_report_of (Ok (listed.Full m k)) = record { kind = 1; listed = m; number = 0; place = 0; counts = k }
+list_report_of (Ok (listed.Limit m k)) = record { kind = 2; listed = m; number = 0; place = 0; counts = k }
+list_report_of (Err f) = record { kind = 3; listed = 0; number = number_of f; place = place_of f; counts = no_counts }
 
 abbrev pub refusal_listing : ℕ → ℕ → ListReport
 refusal_listing n i = record { kind = 3; listed = 0; number = n; place = i; counts = no_counts }
 
-abbrev pub list_kind : Listed → ℕ
+abbrev pub list_kind : Result Listed Refusal → ℕ
 list_kind r = (list_report_of r).kind
 
 -- how many plans are listed
-abbrev pub listed_of : Listed → ℕ
+abbrev pub listed_of : Result Listed Refusal → ℕ
 listed_of r = (list_report_of r).listed
 
-abbrev pub list_counts : Listed → Counts
+abbrev pub list_counts : Result Listed Refusal → Counts
 list_counts r = (list_report_of r).counts
 
 -- ---- what giving up constraints says (request 13): how many rules are dropped, none or limit; "no choices or skips are reported"
@@ -160,11 +156,11 @@ pub record RelaxReport : Type 0 where
   pub number : ℕ
   pub place : ℕ
 
-abbrev pub relax_report_of : Relaxed → RelaxReport
-relax_report_of (relaxed.Answer k) = record { kind = 0; dropped = k; number = 0; place = 0 }
-relax_report_of relaxed.Nothing = record { kind = 1; dropped = 0; number = 0; place = 0 }
-relax_report_of relaxed.Limit = record { kind = 2; dropped = 0; number = 0; place = 0 }
-relax_report_of (relaxed.Refused f) = record { kind = 3; dropped = 0; number = number_of f; place = place_of f }
+abbrev pub relax_report_of : Result Relaxed Refusal → RelaxReport
+relax_report_of (Ok (relaxed.Answer k)) = record { kind = 0; dropped = k; number = 0; place = 0 }
+relax_report_of (Ok relaxed.Nothing) = record { kind = 1; dropped = 0; number = 0; place = 0 }
+relax_report_of (Ok relaxed.Limit) = record { kind = 2; dropped = 0; number = 0; place = 0 }
+relax_report_of (Err f) = record { kind = 3; dropped = 0; number = number_of f; place = place_of f }
 
 abbrev pub refusal_relaxed : ℕ → ℕ → RelaxReport
 refusal_relaxed n i = record { kind = 3; dropped = 0; number = n; place = i }
@@ -172,9 +168,9 @@ refusal_relaxed n i = record { kind = 3; dropped = 0; number = n; place = i }
 -- ---- what a call that changes a session says: done or refused with number and place
 
 -- the kind is 0 done, 3 refused
-abbrev pub pinned_report_of : Pinned → CheckReport
-pinned_report_of changed.Done = record { kind = 0; number = 0; place = 0 }
-pinned_report_of (changed.Refused f) = record { kind = 3; number = number_of f; place = place_of f }
+abbrev pub pinned_report_of : Result ⊤ Refusal → CheckReport
+pinned_report_of (Ok d) = record { kind = 0; number = 0; place = 0 }
+pinned_report_of (Err f) = record { kind = 3; number = number_of f; place = place_of f }
 
-abbrev pub pinned_kind : Pinned → ℕ
+abbrev pub pinned_kind : Result ⊤ Refusal → ℕ
 pinned_kind r = (pinned_report_of r).kind

@@ -1,12 +1,13 @@
-// What comes back (01, "What comes back"): the refusals, and the results of solving and of the check. Meaning: `specs/Results.antt`, which
-// states 01's number and values for each case. Every crate that refuses uses these.
+// What comes back (01, "What comes back"): the refusals, and the results of solving, of listing and of giving up. An entry that can refuse gives a
+// `Result` with a `Refusal` as its error: of a result below; of whether a plan is an answer set, for the check; of how much it wrote, for a writer; of
+// nothing, for a call that changes a session. Meaning: `specs/Results.antt`, which states 01's number and values for each case.
 #![tactic(auto)]
 
 ghost use Rattle.std.specs.Prelude.{◌≡◌};
 ghost use Rattle.results.specs.Results.{number_of, place_of};
 
 // A refusal; those with a place hold it.
-#[derive(Clone, Copy)]
+#[derive(Clone, Copy, Debug, PartialEq, Eq)]
 pub enum Refusal {
     // 1: more than 16,384 words.
     TooManyWords,
@@ -59,131 +60,97 @@ pub enum Refusal {
 }
 
 // What is asked with a table: whether head cycles are taken (request 14), and the limit, any unsigned 32-bit number.
-#[derive(Clone, Copy)]
+#[derive(Clone, Copy, Debug, PartialEq, Eq)]
 pub struct Ask {
     pub cycles: bool,
     pub limit: u32,
 }
 
 // What a result of solving counts: the choices, the skips, and the greatest number of passes that any one propagation took.
-#[derive(Clone, Copy)]
+#[derive(Clone, Copy, Debug, PartialEq, Eq)]
 pub struct Counts {
     pub choices: u32,
     pub skips: u32,
     pub passes: u32,
 }
 
-// The result of solving: an answer, none or limit with the counts, or a refusal.
-#[derive(Clone, Copy)]
+// The result of solving: an answer, none or limit, with the counts.
+#[derive(Clone, Copy, Debug, PartialEq, Eq)]
 pub enum Solved {
     Answer(Counts),
     Nothing(Counts),
     Limit(Counts),
-    Refused(Refusal),
-}
-
-// The result of the check.
-#[derive(Clone, Copy)]
-pub enum Checked {
-    Yes,
-    No,
-    Refused(Refusal),
-}
-
-// The result of a writer: how much it wrote, or a refusal, which writes nothing.
-#[derive(Clone, Copy)]
-pub enum Written {
-    Wrote(usize),
-    Refused(Refusal),
 }
 
 // The result of listing every plan (request 7): how many are listed, with the counts: all there are, there is one more than rows, or the limit is
-// met; or a refusal, which writes nothing.
-#[derive(Clone, Copy)]
+// met. A refusal writes nothing.
+#[derive(Clone, Copy, Debug, PartialEq, Eq)]
 pub enum Listed {
     Complete(usize, Counts),
     Full(usize, Counts),
     Limit(usize, Counts),
-    Refused(Refusal),
 }
 
-// The result of giving up constraints (request 13): the number of the rules that are dropped; the rules with heads alone have no plan; a trial met the
-// limit; or a refusal. Only the first writes.
-#[derive(Clone, Copy)]
+// The result of giving up constraints (request 13): the number of the rules that are dropped; the rules with heads alone have no plan; or a trial met the
+// limit. Only the first writes.
+#[derive(Clone, Copy, Debug, PartialEq, Eq)]
 pub enum Relaxed {
     Answer(usize),
     Nothing,
     Limit,
-    Refused(Refusal),
 }
 
-// The result of a call that changes a session: it is done, or a refusal, which leaves the session as it stood.
-#[derive(Clone, Copy)]
-pub enum Pinned {
-    Done,
-    Refused(Refusal),
-}
-
-// 01's number of a refusal; from 14 on 02's.
-pub fn number(r: Refusal) -> u32
-    ensures { result ≡ number_of r }
-{
-    match r {
-        Refusal::TooManyWords => 1,
-        Refusal::Absent(_) => 2,
-        Refusal::Trailing(_) => 3,
-        Refusal::Count(_) => 4,
-        Refusal::Number(_) => 5,
-        Refusal::Descent(_) => 6,
-        Refusal::Quantity(_) => 7,
-        Refusal::HeadCycle(_) => 8,
-        Refusal::AggregateCycle(_) => 9,
-        Refusal::ShortPlan => 10,
-        Refusal::PlanByte(_) => 11,
-        Refusal::BadNumber(_) => 12,
-        Refusal::TooManyBytes => 13,
-        Refusal::OutsideSubset(_) => 14,
-        Refusal::BeyondRange(_) => 15,
-        Refusal::ShortBuffer => 16,
-        Refusal::PartRow => 17,
-        Refusal::PinNumber => 20,
-        Refusal::PinTwice => 21,
-        Refusal::PinsFull => 22,
-        Refusal::NoPin => 23,
-        Refusal::NamesLost => 24,
-        Refusal::ShortWords => 25,
-        Refusal::ShortList => 26,
+impl Refusal {
+    // 01's number of a refusal; from 14 on 02's.
+    pub fn number(self) -> u32
+        ensures { result ≡ number_of self }
+    {
+        match self {
+            Refusal::TooManyWords => 1,
+            Refusal::Absent(_) => 2,
+            Refusal::Trailing(_) => 3,
+            Refusal::Count(_) => 4,
+            Refusal::Number(_) => 5,
+            Refusal::Descent(_) => 6,
+            Refusal::Quantity(_) => 7,
+            Refusal::HeadCycle(_) => 8,
+            Refusal::AggregateCycle(_) => 9,
+            Refusal::ShortPlan => 10,
+            Refusal::PlanByte(_) => 11,
+            Refusal::BadNumber(_) => 12,
+            Refusal::TooManyBytes => 13,
+            Refusal::OutsideSubset(_) => 14,
+            Refusal::BeyondRange(_) => 15,
+            Refusal::ShortBuffer => 16,
+            Refusal::PartRow => 17,
+            Refusal::PinNumber => 20,
+            Refusal::PinTwice => 21,
+            Refusal::PinsFull => 22,
+            Refusal::NoPin => 23,
+            Refusal::NamesLost => 24,
+            Refusal::ShortWords => 25,
+            Refusal::ShortList => 26,
+        }
     }
-}
 
-// Its place.
-pub fn place(r: Refusal) -> usize
-    ensures { result ≡ place_of r }
-{
-    match r {
-        Refusal::TooManyWords => 0,
-        Refusal::Absent(i) => i,
-        Refusal::Trailing(i) => i,
-        Refusal::Count(i) => i,
-        Refusal::Number(i) => i,
-        Refusal::Descent(i) => i,
-        Refusal::Quantity(i) => i,
-        Refusal::HeadCycle(r) => r,
-        Refusal::AggregateCycle(r) => r,
-        Refusal::ShortPlan => 0,
-        Refusal::PlanByte(i) => i,
-        Refusal::BadNumber(k) => k,
-        Refusal::TooManyBytes => 0,
-        Refusal::OutsideSubset(l) => l,
-        Refusal::BeyondRange(l) => l,
-        Refusal::ShortBuffer => 0,
-        Refusal::PartRow => 0,
-        Refusal::PinNumber => 0,
-        Refusal::PinTwice => 0,
-        Refusal::PinsFull => 0,
-        Refusal::NoPin => 0,
-        Refusal::NamesLost => 0,
-        Refusal::ShortWords => 0,
-        Refusal::ShortList => 0,
+    // Its place; 0 for those that hold none.
+    pub fn place(self) -> usize
+        ensures { result ≡ place_of self }
+    {
+        match self {
+            Refusal::Absent(i)
+            | Refusal::Trailing(i)
+            | Refusal::Count(i)
+            | Refusal::Number(i)
+            | Refusal::Descent(i)
+            | Refusal::Quantity(i)
+            | Refusal::HeadCycle(i)
+            | Refusal::AggregateCycle(i)
+            | Refusal::PlanByte(i)
+            | Refusal::BadNumber(i)
+            | Refusal::OutsideSubset(i)
+            | Refusal::BeyondRange(i) => i,
+            _ => 0,
+        }
     }
 }

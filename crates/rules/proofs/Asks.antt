@@ -3,12 +3,12 @@
 use Prim.Native.Nat.{ℕ, zero, suc, ◌+◌}
 use native.Mathlib.Omega.{arith}
 use mathlib.Core.Path.{◌≡◌, refl, sym, ap, ◌∙◌}
-use mathlib.Core.Bool.{Bool, true, false, not, cond, ◌||◌}
+use mathlib.Core.Bool.{Bool, true, false, not, cond, ◌&&◌, ◌||◌}
 use mathlib.Core.Option.{Option, none, some}
 use mathlib.Core.List.Memᴰ
-use mathlib.Core.List.{List, [], ◌∷◌, ◌++◌}
+use mathlib.Core.List.{List, [], ◌∷◌, ◌++◌, map}
 use Rattle.meaning.specs.Lists.{◌∈◌, any}
-use Rattle.meaning.proofs.Tools.{clash}
+use Rattle.meaning.specs.Program.{Literal}
 use Rattle.interpretation.specs.State.{Cell, undefined, defined}
 use Rattle.interpretation.specs.View.{cell_value}
 use Rattle.interpretation.specs.declared.Value.{Value}
@@ -17,7 +17,7 @@ use Rattle.valuing.specs.Values.{says_true, says_false, says_undefined, signed, 
 use Rattle.steps.specs.Steps.{first_of, count_of}
 use Rattle.rules.specs.declared.Step.{Step}
 use Rattle.rules.specs.declared.Step.TheVariants.{Nothing, Conflict, Set}
-use Rattle.rules.specs.Demand.{becomes_false, ask_of, together, asks, is_nothing, is_conflict}
+use Rattle.rules.specs.Demand.{becomes_false, ask_of, together, asks, is_conflict}
 
 -- ---- together
 
@@ -40,10 +40,15 @@ together_assoc (Set p v) (Set q u) Nothing = refl
 together_assoc (Set p v) (Set q u) Conflict = refl
 together_assoc (Set p v) (Set q u) (Set o t) = refl
 
-pub is_nothing_lem : (d : Step) → is_nothing d ≡ true → d ≡ Nothing
-is_nothing_lem Nothing h = refl
-is_nothing_lem Conflict h = cc
-is_nothing_lem (Set p v) h = cc
+-- the test for a conflict, by what it tells
+pub conflict_other : (d : Step) → (d ≡ Conflict → ⊥) → is_conflict d ≡ false
+conflict_other Nothing h = refl
+conflict_other Conflict h = absurd (h refl)
+conflict_other (Set p v) h = refl
+
+pub conflict_by : (b : Bool) (d : Step) → (b ≡ true → d ≡ Conflict) → (b ≡ false → d ≡ Conflict → ⊥) → b ≡ is_conflict d
+conflict_by true d f g = sym (ap is_conflict (f refl))
+conflict_by false d f g = sym (conflict_other d (g refl))
 
 -- beside a literal that is to be set the others must be true
 pub set_conflict : (p : ℕ) (v : Bool) (d : Step) → is_conflict d ≡ true → together (Set p v) d ≡ Set p v
@@ -61,11 +66,12 @@ never_conflict p v Nothing = refl
 never_conflict p v Conflict = refl
 never_conflict p v (Set q u) = refl
 
--- where one literal is not true, all are not
-pub not_conflict : (v : Value) (s : Bool) (p : ℕ) (d : Step) → says_true v ≡ false → is_conflict (together (ask_of v (atom_lit s p)) d) ≡ false
-not_conflict True s p d e = absurd (clash refl e)
-not_conflict False s p d e = refl
-not_conflict Undefined s p d e = never_conflict p (not s) d
+-- all literals are true where the first is and the others are
+pub all_conflict : (v : Value) (x : Lit) (d : Step) → (says_true v && is_conflict d) ≡ is_conflict (together (ask_of v x) d)
+all_conflict True x d = refl
+all_conflict False x d = refl
+all_conflict Undefined (atom_lit s p) d = sym (never_conflict p (not s) d)
+all_conflict Undefined (agg_lit k) d = refl
 
 pub asks_nil : (a : ℕ → Cell) → asks a [] ≡ Conflict
 unfolding asks
@@ -79,6 +85,18 @@ pub asks_append : (a : ℕ → Cell) (s t : List Lit) → asks a (s ++ t) ≡ to
 unfolding asks
 asks_append a [] t = refl
 asks_append a (x ∷ s) t = ap (together (ask_of (value a x) x)) (asks_append a s t) ∙ sym (together_assoc (ask_of (value a x) x) (asks a s) (asks a t))
+
+-- aggregate literals are never set
+pub asks_literals : (a : ℕ → Cell) (ks : List Literal) → asks a (map agg_lit ks) ≡ cond (is_conflict (asks a (map agg_lit ks))) Conflict Nothing
+unfolding asks
+asks_literals a [] = refl
+asks_literals a (k ∷ ks) = at (value a (agg_lit k)) (asks_literals a ks)
+  where
+    at : (v : Value) → asks a (map agg_lit ks) ≡ cond (is_conflict (asks a (map agg_lit ks))) Conflict Nothing
+        → together (ask_of v (agg_lit k)) (asks a (map agg_lit ks)) ≡ cond (is_conflict (together (ask_of v (agg_lit k)) (asks a (map agg_lit ks)))) Conflict Nothing
+    at True e = e
+    at False e = refl
+    at Undefined e = refl
 
 -- ---- by what is false and undefined
 

@@ -4,7 +4,8 @@ use Prim.Native.Nat.{ℕ, zero, suc, ◌+◌, ◌≤◌, ◌<◌}
 use native.Mathlib.Numerals.{add-one}
 use native.Mathlib.Omega.{arith}
 use mathlib.Core.Path.{◌≡◌, refl, sym, ap, ap₂, ◌∙◌}
-use mathlib.Core.Bool.{Bool, true, false, not}
+use mathlib.Core.Bool.{Bool, true, false, not, ◌&&◌}
+use Rattle.std.specs.List.{list_all, range_with_len}
 use mathlib.Core.List.{List, ◌++◌, map}
 use lib.IntN.{ℤ, pos, nat_abs}
 use lib.ListN.{length, get_or, drop, drop_of_length-le}
@@ -24,8 +25,8 @@ use Rattle.literals.specs.Scan.{atom_lits, literal_lits, atoms_reason}
 use Rattle.literals.proofs.Together.{union_none, reasons_append, reasons_atoms}
 use Rattle.rules.specs.declared.Step.{Step}
 use Rattle.rules.specs.declared.Step.TheVariants.{Nothing, Conflict, Set}
-use Rattle.rules.specs.Demand.{ask_of, together, asks, demand_of}
-use Rattle.rules.proofs.Asks.{together_nothing, together_conflict, together_assoc, asks_nil, asks_cons}
+use Rattle.rules.specs.Demand.{ask_of, together, asks, is_conflict, demand_of}
+use Rattle.rules.proofs.Asks.{together_nothing, together_conflict, together_assoc, all_conflict, asks_nil, asks_cons}
 use Rattle.rules.proofs.Rule.{demand_parts}
 
 -- ---- the literals f (g w) of a list's words w, from index i on
@@ -46,6 +47,22 @@ module _ {A : Type 0} (g : ℤ → A) (f : A → Lit) (a : ℕ → Cell) (l : Li
 
   pub asks_end : length l ≤ i → asks a (lits i) ≡ Conflict
   asks_end h = ap (λ (m : List ℤ). asks a (map f (map g m))) (drop_of_length-le l h) ∙ asks_nil a
+
+-- ---- all literals of a list, by their indices
+
+module _ {A : Type 0} (g : ℤ → A) (f : A → Lit) (a : ℕ → Cell) (l : List ℤ) where
+  abbrev pub true_at : ℕ → Bool
+  true_at i = says_true (value a (f (g (get_or l i (pos 0)))))
+
+  all_from : (n i : ℕ) → n + i ≡ length l → list_all true_at (range_with_len i n) ≡ is_conflict (asks a (map f (map g (drop i l))))
+  all_from zero i e = sym (ap is_conflict (asks_end g f a l i (omega arith)))
+  all_from (suc n) i e =
+      ap (λ (b : Bool). true_at i && b) (all_from n (i + 1) (omega arith))
+      ∙ all_conflict (value a (f (g (get_or l i (pos 0))))) (f (g (get_or l i (pos 0)))) (asks a (map f (map g (drop (i + 1) l))))
+      ∙ sym (ap is_conflict (asks_on g f a l i (omega arith) (value a (f (g (get_or l i (pos 0))))) refl))
+
+  pub all_true_at : list_all true_at (range_with_len 0 (length l)) ≡ is_conflict (asks a (map f (map g l)))
+  all_true_at = all_from (length l) 0 (omega arith)
 
 -- ---- a literal by the byte of its atom's value
 

@@ -45,11 +45,6 @@ denied_lits r = map (atom_lit false) r.head
 unfoldable pub demand_of : (ℕ → Cell) → Rule → Step
 demand_of a r = asks a (denied_lits r ++ body_lits r)
 
-abbrev pub is_nothing : Step → Bool
-is_nothing Nothing = true
-is_nothing Conflict = false
-is_nothing (Set p v) = false
-
 abbrev pub is_conflict : Step → Bool
 is_conflict Nothing = false
 is_conflict Conflict = true

@@ -6,17 +6,19 @@
 ghost use Rattle.std.specs.Prelude.{◌≡◌, Bool, false, not, ◌++◌, ◌≤◌, length};
 ghost use Rattle.levels.specs.View.{row, rows};
 ghost use Rattle.interpretation.specs.View.{valued};
-ghost use Rattle.layout.specs.Layout.{Laid, Members, Plain, Listed, PlainAt, RuleLies, part_at, past_at, rule_at};
+ghost use Rattle.layout.specs.Accepted.{rule_in, RuleIn};
+ghost use Rattle.layout.specs.Layout.{Members, Plain, Listed, PlainAt, part_at, past_at};
 ghost use Rattle.valuing.specs.Reasons.{reasons_of};
 ghost use Rattle.steps.specs.Steps.{head_lits, body_lits};
 ghost use Rattle.literals.specs.Scan.{atom_lits, literal_lits};
-ghost use Rattle.rules.specs.Demand.{together, is_nothing, is_conflict, asks, demand_of};
+ghost use Rattle.rules.specs.Demand.{together, is_conflict, asks, demand_of};
 
 use interpretation::Value;
-use layout::Table;
+use layout::Accepted;
 
 // What a rule asks: nothing, it is in conflict, or an atom is to be set.
-#[derive(Clone, Copy)]
+// Stays: three outcomes of one question, two of which hold nothing; an Option around the other two would hide the third.
+#[derive(Clone, Copy, Debug, PartialEq, Eq)]
 pub enum Step {
     Nothing,
     Conflict,
@@ -27,36 +29,9 @@ pub enum Step {
 pub fn together(d: Step, e: Step) -> Step
     ensures { result ≡ together d e }
 {
-    match d {
-        Step::Nothing => Step::Nothing,
-        Step::Conflict => e,
-        Step::Set(_, _) => match e {
-            Step::Nothing => Step::Nothing,
-            Step::Conflict => d,
-            Step::Set(_, _) => Step::Nothing,
-        },
-    }
-}
-
-// Nothing is asked, whatever the rest of the rule is.
-pub fn is_nothing(d: Step) -> bool
-    ensures { result ≡ is_nothing d }
-{
-    match d {
-        Step::Nothing => true,
-        Step::Conflict => false,
-        Step::Set(_, _) => false,
-    }
-}
-
-// All literals read so far are true.
-pub fn is_conflict(d: Step) -> bool
-    ensures { result ≡ is_conflict d }
-{
-    match d {
-        Step::Nothing => false,
-        Step::Conflict => true,
-        Step::Set(_, _) => false,
+    match (d, e) {
+        (Step::Conflict, other) | (other, Step::Conflict) => other,
+        _ => Step::Nothing,
     }
 }
 
@@ -65,10 +40,10 @@ pub fn atoms_ask(l: &[i32], sign: bool, values: &[u8; 256]) -> Step
     requires { Members 256 l.now × Plain l.now }
     ensures { result ≡ asks (valued values.now) (atom_lits sign l.now) }
 {
-    // The undefined atom passed so far, 0 if there is none. It is a number, so that the loop stays in registers.
+    // The undefined atom passed so far, 0 if there is none.
+    // Stays: as an Option, the loop on its own took more than twice as long on lists of six atoms and more.
     let mut only: usize = 0;
-    let mut i: usize = 0;
-    while i < l.len() {
+    for i in 0..l.len() {
         let b = literals::byte_at(l, i, values);
         if b == 0 {
             if only != 0 {
@@ -81,7 +56,6 @@ pub fn atoms_ask(l: &[i32], sign: bool, values: &[u8; 256]) -> Step
                 return Step::Nothing;
             }
         }
-        i += 1;
     }
     if only == 0 {
         return Step::Conflict;
@@ -94,33 +68,20 @@ pub fn all_true(l: &[i32], sign: bool, values: &[u8; 256]) -> bool
     requires { Members 256 l.now × Plain l.now }
     ensures { result ≡ is_conflict (asks (valued values.now) (atom_lits sign l.now)) }
 {
-    let mut i: usize = 0;
-    while i < l.len() {
-        let b = literals::byte_at(l, i, values);
-        if !literals::affirms(sign, b) {
-            return false;
-        }
-        i += 1;
-    }
-    true
+    (0..l.len()).all(|i| literals::affirms(sign, literals::byte_at(l, i, values)))
 }
 
 // What a list of aggregate literals asks: none of them is ever set, so one that is not true means that nothing is asked.
-pub fn literals_ask(t: &[i32], tb: Table, l: &[i32], values: &[u8; 256]) -> Step
-    requires { Laid t.now tb × Members tb.aggregates l.now }
-    ensures { result ≡ asks (valued values.now) (literal_lits t.now l.now) }
+pub fn literals_ask(t: &Accepted, l: &[i32], values: &[u8; 256]) -> Step
+    requires { Members t.now.places.aggregates l.now }
+    ensures { result ≡ asks (valued values.now) (literal_lits t.now.words.now l.now) }
 {
-    let mut k: usize = 0;
-    while k < l.len() {
-        let v = literals::literal_value(t, tb, l, k, values);
-        match v {
-            Value::True => {}
-            Value::False => return Step::Nothing,
-            Value::Undefined => return Step::Nothing,
-        }
-        k += 1;
+    let holds = |k| literals::literal_value(t, l, k, values) == Value::True;
+    if (0..l.len()).all(holds) {
+        Step::Conflict
+    } else {
+        Step::Nothing
     }
-    Step::Conflict
 }
 
 // What part of a rule asks, with the list of atoms at `at` too.
@@ -144,57 +105,51 @@ pub fn with_list(so: Step, t: &[i32], at: usize, sign: bool, values: &[u8; 256])
 
 // What part of a rule asks, with its negated atoms, listed at `at`, and its aggregate literals too. Few rules come this far: apart from `demand`, it
 // keeps that one small and fast.
-pub fn with_rest(so: Step, t: &[i32], tb: Table, at: usize, values: &[u8; 256]) -> Step
-    requires { Laid t.now tb × Listed 256 t.now at × Listed tb.aggregates t.now (past_at t.now at) × PlainAt t.now at }
-    ensures { result ≡ together (together so (asks (valued values.now) (atom_lits false (part_at t.now at)))) (asks (valued values.now) (literal_lits t.now (part_at t.now (past_at t.now at)))) }
+pub fn with_rest(so: Step, t: &Accepted, at: usize, values: &[u8; 256]) -> Step
+    requires { Listed 256 t.now.words.now at × Listed t.now.places.aggregates t.now.words.now (past_at t.now.words.now at) × PlainAt t.now.words.now at }
+    ensures { result ≡ together (together so (asks (valued values.now) (atom_lits false (part_at t.now.words.now at)))) (asks (valued values.now) (literal_lits t.now.words.now (part_at t.now.words.now (past_at t.now.words.now at)))) }
 {
-    let n = with_list(so, t, at, false, values);
-    if is_nothing(n) {
+    let n = with_list(so, t.words, at, false, values);
+    if n == Step::Nothing {
         return Step::Nothing;
     }
-    let k = layout::plain_past(t, at);
-    let aggregates = layout::part(t, k);
-    let d = literals_ask(t, tb, aggregates, values);
+    let k = layout::plain_past(t.words, at);
+    let aggregates = layout::part(t.words, k);
+    let d = literals_ask(t, aggregates, values);
     together(n, d)
 }
 
 // What the rule asks that begins at `at`: its head atoms negated, then its body. As soon as nothing can be asked, nothing more is read.
-pub fn demand(t: &[i32], tb: Table, at: usize, values: &[u8; 256]) -> Step
-    requires { Laid t.now tb × RuleLies tb.atoms tb.aggregates t.now at }
-    ensures { result ≡ demand_of (valued values.now) (rule_at t.now at) }
+pub fn demand(t: &Accepted, at: usize, values: &[u8; 256]) -> Step
+    requires { RuleIn t.now at }
+    ensures { result ≡ demand_of (valued values.now) (rule_in t.now at) }
 {
-    let h = with_list(Step::Conflict, t, at, false, values);
-    if is_nothing(h) {
+    let h = with_list(Step::Conflict, t.words, at, false, values);
+    if h == Step::Nothing {
         return Step::Nothing;
     }
-    let i = layout::plain_past(t, at);
-    let p = with_list(h, t, i, true, values);
-    if is_nothing(p) {
+    let i = layout::plain_past(t.words, at);
+    let p = with_list(h, t.words, i, true, values);
+    if p == Step::Nothing {
         return Step::Nothing;
     }
-    let j = layout::plain_past(t, i);
-    with_rest(p, t, tb, j, values)
+    let j = layout::plain_past(t.words, i);
+    with_rest(p, t, j, values)
 }
 
 // The reason of what steps a to c do at the rule that begins at `at`: the union over its literals. The one that is set is undefined and adds nothing.
-pub fn reason(
-    t: &[i32],
-    tb: Table,
-    at: usize,
-    values: &[u8; 256],
-    reasons: &[[u64; 4]; 256],
-) -> [u64; 4]
-    requires { Laid t.now tb × RuleLies tb.atoms tb.aggregates t.now at }
-    ensures { row result ≡ reasons_of (valued values.now) (rows reasons.now) (head_lits (rule_at t.now at) ++ body_lits (rule_at t.now at)) }
+pub fn reason(t: &Accepted, at: usize, values: &[u8; 256], reasons: &[[u64; 4]; 256]) -> [u64; 4]
+    requires { RuleIn t.now at }
+    ensures { row result ≡ reasons_of (valued values.now) (rows reasons.now) (head_lits (rule_in t.now at) ++ body_lits (rule_in t.now at)) }
 {
-    let head = layout::part(t, at);
-    let i = layout::past(t, at);
-    let positive = layout::part(t, i);
-    let j = layout::past(t, i);
-    let negated = layout::part(t, j);
-    let k = layout::past(t, j);
-    let aggregates = layout::part(t, k);
-    let a = literals::literals_reason(t, tb, aggregates, values, reasons, levels::empty());
+    let head = layout::part(t.words, at);
+    let i = layout::past(t.words, at);
+    let positive = layout::part(t.words, i);
+    let j = layout::past(t.words, i);
+    let negated = layout::part(t.words, j);
+    let k = layout::past(t.words, j);
+    let aggregates = layout::part(t.words, k);
+    let a = literals::literals_reason(t, aggregates, values, reasons, levels::empty());
     let b = literals::atoms_reason(negated, values, reasons, a);
     let c = literals::atoms_reason(positive, values, reasons, b);
     literals::atoms_reason(head, values, reasons, c)

@@ -4,128 +4,56 @@
 
 mod input;
 
-use results::Written;
+use framed::read_full;
 use std::io;
 use std::io::Read;
 
 // The largest text and buffer of a case.
-pub const MOST_BYTES: usize = 8192;
+const MOST_BYTES: usize = 8192;
 
-pub const MOST_WORDS: usize = 16384;
+const MOST_WORDS: usize = 16384;
 
 // What the buffer's words are before.
 const BEFORE: i32 = -7;
 
-fn show(rt: &impl Print, bytes: &[u8]) -> io::Result<()> {
-    rt.write_all(bytes)
-}
-
-// A space and the number.
-fn number(rt: &impl Print, n: u64) -> io::Result<()> {
-    show(rt, b" ")?;
-    print!(rt; "{n}")
-}
-
-fn word(rt: &impl Print, w: i32) -> io::Result<()> {
-    show(rt, b" ")?;
-    if words::below(w) {
-        show(rt, b"-")?;
-    }
-    let size = words::size(w);
-    print!(rt; "{size}")
-}
-
-// The first words.
-fn print_words(rt: &impl Print, words: &[i32], n: usize) -> io::Result<()> {
-    let mut i: usize = 0;
-    while i < words.len() && i < n {
-        word(rt, words[i])?;
-        i += 1;
-    }
-    Ok(())
-}
-
-// How many words are as before.
-fn kept(words: &[i32]) -> u64 {
-    let mut n: u64 = 0;
-    let mut i: usize = 0;
-    while i < words.len() {
-        if words[i] == BEFORE {
-            n = n.wrapping_add(1);
-        }
-        i += 1;
-    }
-    n
-}
-
 // A case's line.
 fn print_case(rt: &impl Print, text: &[u8], words: &mut [i32]) -> io::Result<()> {
-    let written = aspif_read::read(text, words);
-    match written {
-        Written::Wrote(n) => {
-            show(rt, b"wrote")?;
-            number(rt, n as u64)?;
-            show(rt, b":")?;
-            print_words(rt, words, n)?;
+    match aspif_read::read(text, words) {
+        Ok(n) => {
+            print!(rt; "wrote {n}:")?;
+            for w in words.iter().take(n) {
+                print!(rt; " {w}")?;
+            }
         }
-        Written::Refused(r) => {
-            show(rt, b"refused")?;
-            number(rt, results::number(r) as u64)?;
-            number(rt, results::place(r) as u64)?;
-        }
+        Err(refusal) => print!(rt; "refused {} {}", refusal.number(), refusal.place())?,
     }
-    show(rt, b" /")?;
-    number(rt, kept(words))?;
-    show(rt, b"\n")
-}
-
-// The line of the case that lies in the first places of both.
-fn print_part(
-    rt: &impl Print,
-    text: &[u8],
-    length: usize,
-    words: &mut [i32],
-    room: usize,
-) -> io::Result<()> {
-    if length > text.len() {
-        return Ok(());
-    }
-    if room > words.len() {
-        return Ok(());
-    }
-    print_case(rt, &text[..length], &mut words[..room])
-}
-
-fn print_arrays(
-    rt: &impl Print,
-    text: &[u8; MOST_BYTES],
-    length: usize,
-    words: &mut [i32; MOST_WORDS],
-    room: usize,
-) -> io::Result<()> {
-    print_part(rt, text, length, words, room)
+    let kept = words.iter().filter(|w| **w == BEFORE).count();
+    println!(rt; " / {kept}")
 }
 
 // Reads a case and prints its line; whether there was one.
 fn run_case(rt: &impl Print, input: &mut impl Read) -> io::Result<bool> {
-    let room = input::number(input)?;
-    let length = input::number(input)?;
-    if MOST_BYTES < length {
+    let room = input::number(input)?.unwrap_or(usize::MAX);
+    let length = input::number(input)?.unwrap_or(usize::MAX);
+    if length > MOST_BYTES {
         return Ok(false);
     }
     let mut text = [0u8; MOST_BYTES];
     let mut words = [BEFORE; MOST_WORDS];
-    input::bytes(input, &mut text, length)?;
-    print_arrays(rt, &text, length, &mut words, room)?;
+    read_full(input, &mut text[..length])?;
+    if room <= MOST_WORDS {
+        print_case(rt, &text[..length], &mut words[..room])?;
+    }
     Ok(true)
 }
 
-// Nothing says that the input ends, so the turns are counted down from a number that no run uses up.
+// Nothing says that the input ends, so the turns are counted.
 fn main(rt: HostRuntime) -> io::Result<()> {
     let mut input = rt.stdin();
-    let mut turns = u64::MAX;
-    while turns > 0 && run_case(&rt, &mut input)? {
-        turns -= 1;
+    for _ in 0..u64::MAX {
+        if !run_case(&rt, &mut input)? {
+            break;
+        }
     }
     Ok(())
 }

@@ -3,51 +3,25 @@
 // though the plain one has not met it. tools/plain.py makes the texts and the lines of `stdout`.
 #![tactic(auto)]
 
-use results::{Ask, Solved};
+use framed::next_part;
+use printed::print_line;
+use results::{Ask, Refusal, Solved};
 use std::io;
 use std::io::Read;
-use text::printer::print;
-use text::reader::{Reading, read};
+use text::reader::read;
 
 // Room for a text of one byte too many.
 const MOST_BYTES: usize = 65537;
 
-// Room for any line.
-const LINE: usize = 1100;
-
-// The line of a result, by way of a buffer.
-fn write_line(rt: &impl Print, solved: Solved, plan: &[u8], out: &mut [u8]) -> io::Result<()> {
-    let wrote = print(solved, 256, plan, out);
-    rt.write_all(&out[..wrote])
-}
-
-// The line of a result.
-fn print_line(rt: &impl Print, solved: Solved, plan: &[u8]) -> io::Result<()> {
-    let mut out = [0u8; LINE];
-    write_line(rt, solved, plan, &mut out)
-}
-
-// The kind of a result: 0 answer, 1 none, 2 limit; of a refusal its number and place, past all kinds.
-fn code(solved: Solved) -> u64 {
-    match solved {
-        Solved::Answer(_) => 0,
-        Solved::Nothing(_) => 1,
-        Solved::Limit(_) => 2,
-        Solved::Refused(f) => (results::number(f) as u64) * 4294967296
-            + (results::place(f) as u64) % 4294967296,
+// Whether two results are of one kind: both an answer, both none, both the limit, or the same refusal.
+fn same_kind(a: Result<Solved, Refusal>, b: Result<Solved, Refusal>) -> bool {
+    match (a, b) {
+        (Ok(Solved::Answer(_)), Ok(Solved::Answer(_))) => true,
+        (Ok(Solved::Nothing(_)), Ok(Solved::Nothing(_))) => true,
+        (Ok(Solved::Limit(_)), Ok(Solved::Limit(_))) => true,
+        (Err(f), Err(g)) => f == g,
+        _ => false,
     }
-}
-
-// Whether two plans are the same.
-fn same_plan(a: &[u8; 256], b: &[u8; 256]) -> bool {
-    let mut i = 0;
-    while i < 256 {
-        if a[i] != b[i] {
-            return false;
-        }
-        i += 1;
-    }
-    true
 }
 
 // Both engines on a table.
@@ -59,97 +33,43 @@ fn run_table(rt: &impl Print, words: &[i32], limit: u32) -> io::Result<()> {
     };
     let solved = plain::solve(words, ask, &mut plan);
     print_line(rt, solved, &plan)?;
+    if matches!(solved, Ok(Solved::Limit(_))) {
+        return Ok(());
+    }
     let mut other = [0u8; 256];
-    let solution = solver::solve(words, ask, &mut other);
-    let jumped = solution.solved;
-    let kind = code(solved);
-    if kind != 2 {
-        if kind != code(jumped) || !same_plan(&plan, &other) {
-            rt.write_all(b"differs\n")?;
-        }
+    let jumped = solver::solve(words, ask, &mut other).solved;
+    if !same_kind(solved, jumped) || plan != other {
+        rt.write_all(b"differs\n")?;
     }
     Ok(())
 }
 
 // Both engines on the table of a text.
-fn run_bytes(rt: &impl Print, bytes: &[u8]) -> io::Result<()> {
+fn run_text(rt: &impl Print, bytes: &[u8]) -> io::Result<()> {
     let mut words = [0i32; 32768];
-    let reading = read(bytes, &mut words);
-    match reading {
-        Reading::Read(limit, count) => run_table(rt, &words[..count], limit),
-        Reading::Refused(f) => print_line(rt, Solved::Refused(f), &[0u8; 256]),
+    match read(bytes, &mut words) {
+        Ok((limit, count)) => run_table(rt, &words[..count], limit),
+        Err(f) => print_line(rt, Err(f), &[0; 256]),
     }
-}
-
-// Reads until the buffer is full or the input ends.
-fn read_full(input: &mut impl Read, buffer: &mut [u8]) -> io::Result<()> {
-    let mut done = 0;
-    while done < buffer.len() {
-        let n = input.read(&mut buffer[done..])?;
-        if n == 0 {
-            break;
-        }
-        done += n;
-    }
-    Ok(())
-}
-
-// The next byte, 255 at the end of the input.
-fn next_byte(input: &mut impl Read) -> io::Result<u8> {
-    let mut one = [255u8; 1];
-    read_full(input, &mut one)?;
-    Ok(one[0])
-}
-
-// The next four bytes, low byte first.
-fn four_bytes(input: &mut impl Read) -> io::Result<u32> {
-    let a = next_byte(input)?;
-    let b = next_byte(input)?;
-    let c = next_byte(input)?;
-    let d = next_byte(input)?;
-    Ok((a as u32) | ((b as u32) << 8) | ((c as u32) << 16) | ((d as u32) << 24))
-}
-
-// The length of the next text; at the end of the input more than any text has.
-fn next_length(input: &mut impl Read) -> io::Result<usize> {
-    Ok(four_bytes(input)? as usize)
-}
-
-// Reads a text of this length into the buffer.
-fn read_text(input: &mut impl Read, buffer: &mut [u8], length: usize) -> io::Result<()> {
-    if length > buffer.len() {
-        return Ok(());
-    }
-    read_full(input, &mut buffer[..length])
-}
-
-// The table of the text that lies in the first places of the buffer; whether it lies there.
-fn run_text(rt: &impl Print, buffer: &[u8], length: usize) -> io::Result<bool> {
-    if length > buffer.len() {
-        return Ok(false);
-    }
-    run_bytes(rt, &buffer[..length])?;
-    Ok(true)
 }
 
 // Reads a text and puts its table through both engines; whether there was one.
-fn run_next(rt: &impl Print, input: &mut impl Read, buffer: &mut [u8]) -> io::Result<bool> {
-    let length = next_length(input)?;
-    read_text(input, buffer, length)?;
-    run_text(rt, buffer, length)
-}
-
 fn run(rt: &impl Print, input: &mut impl Read) -> io::Result<bool> {
     let mut buffer = [0u8; MOST_BYTES];
-    run_next(rt, input, &mut buffer)
+    let Some(length) = next_part(input, &mut buffer)? else {
+        return Ok(false);
+    };
+    run_text(rt, &buffer[..length])?;
+    Ok(true)
 }
 
-// Nothing says that the input ends, so the turns are counted down from a number that no run uses up.
+// Nothing says that the input ends, so the turns are counted.
 fn main(rt: HostRuntime) -> io::Result<()> {
     let mut input = rt.stdin();
-    let mut turns = u64::MAX;
-    while turns > 0 && run(&rt, &mut input)? {
-        turns -= 1;
+    for _ in 0..u64::MAX {
+        if !run(&rt, &mut input)? {
+            break;
+        }
     }
     Ok(())
 }

@@ -2,123 +2,92 @@
 // enumeration, the lines of `stdout`; it says what a case is and what its line has.
 #![tactic(auto)]
 
+ghost use Rattle.std.specs.Prelude.{◌≤◌};
+
 mod input;
-mod output;
 
 use input::{MOST_BYTES, MOST_WORDS};
-use results::{Ask, Checked, Refusal, Solved};
+use results::{Ask, Refusal, Solved};
 use std::io;
 use std::io::Read;
 
 fn print_refusal(rt: &impl Print, refusal: Refusal) -> io::Result<()> {
-    output::text(rt, b"refused")?;
-    output::number(rt, results::number(refusal) as u64)?;
-    output::number(rt, results::place(refusal) as u64)
+    print!(rt; "refused {} {}", refusal.number(), refusal.place())
+}
+
+// The number of each byte that is 1, from 1.
+fn print_atoms(rt: &impl Print, plan: &[u8]) -> io::Result<()> {
+    for (i, b) in plan.iter().enumerate() {
+        if *b == 1 {
+            print!(rt; " {}", i + 1)?;
+        }
+    }
+    Ok(())
 }
 
 // The solver's result, with the atoms of the plan; past them no byte is 1.
-fn print_solved(rt: &impl Print, solved: Solved, plan: &[u8]) -> io::Result<()> {
+fn print_solved(rt: &impl Print, solved: Result<Solved, Refusal>, plan: &[u8]) -> io::Result<()> {
     match solved {
-        Solved::Answer(_) => {
-            output::text(rt, b"answer")?;
-            output::atoms(rt, plan)
+        Ok(Solved::Answer(_)) => {
+            rt.write_all(b"answer")?;
+            print_atoms(rt, plan)
         }
-        Solved::Nothing(_) => output::text(rt, b"none"),
-        Solved::Limit(_) => output::text(rt, b"limit"),
-        Solved::Refused(refusal) => print_refusal(rt, refusal),
+        Ok(Solved::Nothing(_)) => rt.write_all(b"none"),
+        Ok(Solved::Limit(_)) => rt.write_all(b"limit"),
+        Err(refusal) => print_refusal(rt, refusal),
     }
 }
 
-// The check's result; whether it is no refusal.
-fn print_checked(rt: &impl Print, checked: Checked) -> io::Result<bool> {
+// The check's result.
+fn print_checked(rt: &impl Print, checked: Result<bool, Refusal>) -> io::Result<()> {
     match checked {
-        Checked::Yes => output::text(rt, b"yes")?,
-        Checked::No => output::text(rt, b"no")?,
-        Checked::Refused(refusal) => {
-            print_refusal(rt, refusal)?;
-            return Ok(false);
-        }
-    }
-    Ok(true)
-}
-
-// How many plans there are for so many atoms; none are tried for more than 6.
-fn plans(atoms: usize) -> u64 {
-    match atoms {
-        0 => 1,
-        1 => 2,
-        2 => 4,
-        3 => 8,
-        4 => 16,
-        5 => 32,
-        6 => 64,
-        _ => 0,
+        Ok(true) => rt.write_all(b"yes"),
+        Ok(false) => rt.write_all(b"no"),
+        Err(refusal) => print_refusal(rt, refusal),
     }
 }
 
-// A byte of a plan: the code's lowest bit for an atom, else as it is.
-fn plan_byte(is_atom: bool, code: u64, byte: u8) -> u8 {
-    if !is_atom {
-        return byte;
-    }
-    if code % 2 == 1 {
-        return 1;
-    }
-    0
+// The checksum of tools/cases.py with one more number.
+fn mixed(h: u64, x: u64) -> u64 {
+    ((h % 65521) * 33 + (x % 65521) + 1) % 65521
+}
+
+// The checksum of the bytes.
+fn checksum(bytes: &[u8]) -> u64 {
+    bytes.iter().fold(1, |h, b| mixed(h, u64::from(*b)))
 }
 
 // Sets the bytes of the atoms to the bits of the code, the lowest first.
 fn set_plan(plan: &mut [u8], atoms: usize, code: u64) {
     let mut rest = code;
-    let mut i = 0;
-    while i < plan.len() {
-        plan[i] = plan_byte(i < atoms, rest, plan[i]);
-        rest = rest / 2;
-        i += 1;
-    }
-}
-
-fn is_approved(table: &[i32], plan: &[u8]) -> bool {
-    match solver::approve(table, false, plan) {
-        Checked::Yes => true,
-        Checked::No => false,
-        Checked::Refused(_) => false,
+    for b in plan.iter_mut().take(atoms) {
+        *b = (rest % 2) as u8;
+        rest /= 2;
     }
 }
 
 // Has every plan checked; how many are answer sets, and the checksum of which.
-fn print_all(rt: &impl Print, table: &[i32], plan: &mut [u8], atoms: usize) -> io::Result<()> {
-    let all = plans(atoms);
-    let mut found = 0u64;
-    let mut sum = 1u64;
-    let mut code = 0u64;
-    while code < all {
+fn print_all(rt: &impl Print, table: &[i32], plan: &mut [u8], atoms: usize) -> io::Result<()>
+    requires { atoms ≤ 6 }
+{
+    let mut found: u64 = 0;
+    let mut sum: u64 = 1;
+    for code in 0..1u64 << atoms {
         set_plan(plan, atoms, code);
-        if is_approved(table, plan) {
-            found = found.wrapping_add(1);
-            sum = output::mixed(sum, code);
+        if matches!(solver::approve(table, false, plan), Ok(true)) {
+            found += 1;
+            sum = mixed(sum, code);
         }
-        code += 1;
     }
-    output::text(rt, b" /")?;
-    output::number(rt, found)?;
-    output::number(rt, sum)
+    print!(rt; " / {found} {sum}")
 }
 
 // The part of the line on all plans, for accepted tables of at most 6 atoms.
-fn print_plans(
-    rt: &impl Print,
-    is_accepted: bool,
-    table: &[i32],
-    plan: &mut [u8],
-) -> io::Result<()> {
-    if !is_accepted {
+fn print_plans(rt: &impl Print, table: &[i32], plan: &mut [u8]) -> io::Result<()> {
+    let Some(first) = table.first() else {
         return Ok(());
-    }
-    if table.len() == 0 {
-        return Ok(());
-    }
-    let atoms = words::size(table[0]);
+    };
+    let atoms = words::size(*first);
     if atoms <= 6 {
         print_all(rt, table, plan, atoms)?;
     }
@@ -133,66 +102,40 @@ fn print_line(rt: &impl Print, table: &[i32], plan: &mut [u8]) -> io::Result<()>
         limit: 4294967295,
     };
     let solution = solver::solve(table, ask, plan);
-    let solved = solution.solved;
-    print_solved(rt, solved, plan)?;
-    output::text(rt, b" /")?;
-    output::number(rt, output::checksum(plan))?;
-    output::text(rt, b" / ")?;
-    let is_accepted = print_checked(rt, checked)?;
-    print_plans(rt, is_accepted, table, plan)?;
-    output::text(rt, b"\n")
-}
-
-// The line of the case that lies in the first places of both.
-fn print_case(
-    rt: &impl Print,
-    table: &[i32],
-    count: usize,
-    plan: &mut [u8],
-    length: usize,
-) -> io::Result<()> {
-    if count > table.len() {
-        return Ok(());
+    print_solved(rt, solution.solved, plan)?;
+    print!(rt; " / {} / ", checksum(plan))?;
+    print_checked(rt, checked)?;
+    if checked.is_ok() {
+        print_plans(rt, table, plan)?;
     }
-    if length > plan.len() {
-        return Ok(());
-    }
-    print_line(rt, &table[..count], &mut plan[..length])
-}
-
-// The same of the arrays.
-fn print_arrays(
-    rt: &impl Print,
-    table: &[i32; MOST_WORDS],
-    count: usize,
-    plan: &mut [u8; MOST_BYTES],
-    length: usize,
-) -> io::Result<()> {
-    print_case(rt, table, count, plan, length)
+    rt.write_all(b"\n")
 }
 
 // Reads a case and prints its line; whether there was one.
 fn run_case(rt: &impl Print, input: &mut impl Read) -> io::Result<bool> {
-    let count = input::count(input)?;
-    let length = input::count(input)?;
-    let given = input::count(input)?;
+    let count = input::count(input)?.unwrap_or(usize::MAX);
+    let length = input::count(input)?.unwrap_or(usize::MAX);
+    let given = input::count(input)?.unwrap_or(usize::MAX);
     if count > MOST_WORDS {
         return Ok(false);
     }
     let mut table = [0i32; MOST_WORDS];
     let mut plan = [7u8; MOST_BYTES];
-    input::read_words(input, &mut table, count)?;
-    input::read_bytes(input, &mut plan, given)?;
-    print_arrays(rt, &table, count, &mut plan, length)?;
+    input::read_words(input, &mut table[..count])?;
+    input::read_bytes(input, &mut plan[..given.min(MOST_BYTES)])?;
+    if length <= MOST_BYTES {
+        print_line(rt, &table[..count], &mut plan[..length])?;
+    }
     Ok(true)
 }
 
-// Nothing says that the input ends, so the turns are counted down from a number that no run uses up.
+// Nothing says that the input ends, so the turns are counted.
 fn main(rt: HostRuntime) -> io::Result<()> {
     let mut input = rt.stdin();
-    let mut turns = u64::MAX;
-    while turns > 0 && run_case(&rt, &mut input)? {
-        turns -= 1;
+    for _ in 0..u64::MAX {
+        if !run_case(&rt, &mut input)? {
+            break;
+        }
     }
     Ok(())
 }

@@ -39,16 +39,16 @@ cells_put vs ls p v b l w h g e =
     ap (cells (set vs (p - 1) b)) (map_set ls (p - 1) l) ∙ cells_set_at vs (map record_at ls) p b (record_at l) h (omega arith) (omega arith)
     ∙ ap (λ (c : Cell). put p c (cells_at vs ls)) (ap (λ (x : ℕ). cell_by x l) e ∙ cell_byte v l)
 
--- ---- undoing: the cells above index i are undone
+-- ---- undoing: the cells up to index i are undone
 
-module _ (m i : ℕ) (a : ℕ → Cell) (vs ls : List ℕ) (w : Whole vs ls) (e : cells_at vs ls ≡ partly m (suc i) a) where
-  pub undo_at : i < 256 → m ≤ get_or ls i 0 → cells_at (set vs i 0) (set ls i 0) ≡ partly m i a
+module _ (m i : ℕ) (a : ℕ → Cell) (vs ls : List ℕ) (w : Whole vs ls) (e : cells_at vs ls ≡ partly m i a) where
+  pub undo_at : i < 256 → m ≤ get_or ls i 0 → cells_at (set vs i 0) (set ls i 0) ≡ partly m (i + 1) a
   undo_at h g =
       let n = w.0 in
       let k = sized ls w.1 in
       ap (cells (set vs i 0)) (map_set ls i 0) ∙ undo_one m i a vs (map record_at ls) e (omega arith) (omega arith) (subst (λ (l : ℕ). m ≤ l) (sym (level_at ls i)) g)
 
-  pub keep_at : get_or ls i 0 < m → cells_at vs ls ≡ partly m i a
+  pub keep_at : get_or ls i 0 < m → cells_at vs ls ≡ partly m (i + 1) a
   keep_at g = keep_one m i a vs (map record_at ls) e (subst (λ (l : ℕ). l < m) (sym (level_at ls i)) g)
 
 -- ---- one more level, and a step back

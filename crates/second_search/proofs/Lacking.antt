@@ -1,12 +1,14 @@
--- Whether an atom is lacking, from the last atom down; and the true atoms, and the lowest undefined one, by the values alone. Assumes nothing.
+-- Whether an atom is lacking among the first ones; and the true atoms, and the lowest undefined one, by the values alone. Assumes nothing.
 use Prim.Native.Nat.{ℕ, zero, suc, ◌-◌, ◌≤◌, ◌<◌}
 use native.Mathlib.Omega.{arith}
 use mathlib.Core.Path.{◌≡◌, refl, sym, ap, ap₂, ◌∙◌, fun_ext}
 use mathlib.Core.Bool.{Bool, true, false, not, ◌&&◌, ◌||◌}
+use mathlib.Core.Logic.{◌≢◌, ◌⊎◌, inl, inr}
 use mathlib.Core.Option.{Option, none, some}
 use mathlib.Core.List.{List}
 use lib.ListN.{get_or}
 use Rattle.meaning.specs.Cond.{if_lt}
+use Rattle.meaning.proofs.Cond.{eq_case}
 use Rattle.interpretation.specs.State.{truth_of, true_atoms, lowest, lowest_step}
 use Rattle.interpretation.specs.View.{cell_by, blank, cells, valued}
 use Rattle.interpretation.specs.declared.Record.{Record}
@@ -23,9 +25,25 @@ module _ (X Y : Atoms) where
   lacks_none zero h = refl
   lacks_none (suc p) h = absurd (omega arith)
 
-  pub lacks_here : (p : ℕ) → 0 < p → X p ≡ true → Y p ≡ false → lacks_to X Y p ≡ true
+  lacks_here : (p : ℕ) → 0 < p → X p ≡ true → Y p ≡ false → lacks_to X Y p ≡ true
   lacks_here zero h x y = absurd (omega arith)
   lacks_here (suc p) h x y = ap (λ (b : Bool). b || lacks_to X Y p) (ap₂ (λ (a b : Bool). a && not b) x y)
+
+  lacks_on : (n : ℕ) → lacks_to X Y n ≡ true → lacks_to X Y (suc n) ≡ true
+  lacks_on n e = ap (λ (b : Bool). (X (suc n) && not (Y (suc n))) || b) e ∙ at (X (suc n) && not (Y (suc n)))
+    where
+      at : (a : Bool) → (a || true) ≡ true
+      at true = refl
+      at false = refl
+
+  -- an atom of 1 .. n is lacking
+  pub lacks_at : (n p : ℕ) → 0 < p → p ≤ n → X p ≡ true → Y p ≡ false → lacks_to X Y n ≡ true
+  lacks_at zero p h g x y = absurd (omega arith)
+  lacks_at (suc n) p h g x y = at (eq_case p (suc n)) (λ k. lacks_at n p h k x y)
+    where
+      at : (p ≡ suc n) ⊎ (p ≢ suc n) → (p ≤ n → lacks_to X Y n ≡ true) → lacks_to X Y (suc n) ≡ true
+      at (inl e) f = ap (lacks_to X Y) (sym e) ∙ lacks_here p h x y
+      at (inr m) f = lacks_on n (f (omega arith))
 
   pub lacks_not : (p : ℕ) → 0 < p → X p ≡ false → lacks_to X Y p ≡ lacks_to X Y (p - 1)
   lacks_not zero h x = absurd (omega arith)

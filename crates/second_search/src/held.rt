@@ -23,9 +23,7 @@ pub fn undo(m: u16, values: &mut [u8; 256], levels: &mut [u16; 256])
     ensures { Whole values.new levels.new
         × (cells_at values.new levels.new ≡ (λ q. undone m (cells_at values.old levels.old q))) }
 {
-    let mut i: usize = 256;
-    while 0 < i {
-        i -= 1;
+    for i in 0..256 {
         if m <= levels[i] {
             values[i] = 0;
             levels[i] = 0;
@@ -38,13 +36,11 @@ pub fn start(candidate: &[u8; 256], n: usize, values: &mut [u8; 256], levels: &m
     requires { (n ≤ 256) × Whole values.old levels.old × (cells_at values.old levels.old ≡ (λ p. undefined)) }
     ensures { Whole values.new levels.new × (cells_at values.new levels.new ≡ start_cells n (true_atoms n (valued candidate.now))) }
 {
-    let mut i: usize = 0;
-    while i < n {
+    for i in 0..n {
         let p = i + 1;
         if !foundation::is_true(candidate, p) {
             set(p, false, 0, values, levels);
         }
-        i += 1;
     }
 }
 

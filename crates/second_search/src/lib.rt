@@ -6,8 +6,8 @@
 ghost use Rattle.std.specs.Prelude.{◌≡◌, Bool, true, false, map, ◌≤◌, suc, ltb};
 ghost use Rattle.meaning.specs.Answers.{body, reduct};
 ghost use Rattle.interpretation.specs.State.{AllDefined, true_atoms, lowest};
-ghost use Rattle.interpretation.specs.View.{valued, found};
-ghost use Rattle.layout.specs.Layout.{Laid, RuleLies, rule_at};
+ghost use Rattle.interpretation.specs.View.{valued};
+ghost use Rattle.layout.specs.Accepted.{rule_in, RuleIn};
 ghost use Rattle.heads.specs.Heads.{AllLie};
 ghost use Rattle.steps.specs.Steps.{pass, passes};
 ghost use Rattle.rules.specs.Demand.{demand_of};
@@ -17,8 +17,7 @@ ghost use Rattle.second_search.specs.Looking.{Like, work_of, cells_at, Whole, as
 
 pub mod held;
 
-use interpretation::Choice;
-use layout::Table;
+use layout::Accepted;
 use rules::Step;
 
 // What the test says of the candidate, with the choices that it spent: no smaller model was found, or one was; or the limit stopped the test.
@@ -30,6 +29,7 @@ pub enum Tested {
 }
 
 // What a pass, or passes, did: whether an atom was set, and whether there was a conflict.
+// Stays: two flags: a pass may set atoms and then meet a conflict, and the contracts of `rule_steps` and `propagate` tell of both.
 #[derive(Clone, Copy)]
 pub struct Steps {
     pub changed: bool,
@@ -46,49 +46,43 @@ pub enum Turn {
 }
 
 // Whether the rule at `at` belongs to the reduct: its whole body is true in the candidate.
-pub fn takes_part(t: &[i32], tb: Table, at: usize, candidate: &[u8; 256]) -> bool
-    requires { Laid t.now tb × RuleLies tb.atoms tb.aggregates t.now at × AllDefined tb.atoms (valued candidate.now) }
-    ensures { result ≡ body (true_atoms tb.atoms (valued candidate.now)) (rule_at t.now at) }
+pub fn takes_part(t: &Accepted, at: usize, candidate: &[u8; 256]) -> bool
+    requires { RuleIn t.now at × AllDefined t.now.places.atoms (valued candidate.now) }
+    ensures { result ≡ body (true_atoms t.now.places.atoms (valued candidate.now)) (rule_in t.now at) }
 {
-    let i = layout::past(t, at);
-    let positive = layout::part(t, i);
+    let i = layout::past(t.words, at);
+    let positive = layout::part(t.words, i);
     let asked = rules::atoms_ask(positive, true, candidate);
-    if rules::is_conflict(asked) {
-        return foundation::rest_true(t, tb, at, candidate);
-    }
-    false
+    asked == Step::Conflict && foundation::rest_true(t, at, candidate)
 }
 
 // What steps a to c ask of the rule at `at`: nothing where it is not in the reduct.
-pub fn asked(t: &[i32], tb: Table, at: usize, candidate: &[u8; 256], values: &[u8; 256]) -> Step
-    requires { Laid t.now tb × RuleLies tb.atoms tb.aggregates t.now at × AllDefined tb.atoms (valued candidate.now) }
-    ensures { result ≡ asked_of (body (true_atoms tb.atoms (valued candidate.now)) (rule_at t.now at)) (demand_of (valued values.now) (rule_at t.now at)) }
+pub fn asked(t: &Accepted, at: usize, candidate: &[u8; 256], values: &[u8; 256]) -> Step
+    requires { RuleIn t.now at × AllDefined t.now.places.atoms (valued candidate.now) }
+    ensures { result ≡ asked_of (body (true_atoms t.now.places.atoms (valued candidate.now)) (rule_in t.now at)) (demand_of (valued values.now) (rule_in t.now at)) }
 {
-    if takes_part(t, tb, at, candidate) {
-        return rules::demand(t, tb, at, values);
+    if takes_part(t, at, candidate) {
+        return rules::demand(t, at, values);
     }
     Step::Nothing
 }
 
 // A pass: steps a to c at the reduct's rules, in the order of the places.
 pub fn rule_steps(
-    t: &[i32],
-    tb: Table,
+    t: &Accepted,
     places: &[u16],
     candidate: &[u8; 256],
     level: u16,
     values: &mut [u8; 256],
     levels: &mut [u16; 256],
 ) -> Steps
-    requires { Laid t.now tb × AllLie tb t.now places.now × AllDefined tb.atoms (valued candidate.now) × Whole values.old levels.old }
+    requires { AllLie t.now.places t.now.words.now places.now × AllDefined t.now.places.atoms (valued candidate.now) × Whole values.old levels.old }
     ensures { Whole values.new levels.new
-        × Like (work_of level (cells_at values.new levels.new) result.changed result.conflict) (pass (reduct (map (rule_at t.now) places.now) (true_atoms tb.atoms (valued candidate.now))) 0 (work_of level (cells_at values.old levels.old) false false)) }
+        × Like (work_of level (cells_at values.new levels.new) result.changed result.conflict) (pass (reduct (map (rule_in t.now) places.now) (true_atoms t.now.places.atoms (valued candidate.now))) 0 (work_of level (cells_at values.old levels.old) false false)) }
 {
     let mut changed = false;
-    let mut i: usize = 0;
-    while i < places.len() {
-        let at = places[i] as usize;
-        let step = asked(t, tb, at, candidate, values);
+    for place in places {
+        let step = asked(t, *place as usize, candidate, values);
         match step {
             Step::Nothing => {}
             Step::Conflict => {
@@ -102,7 +96,6 @@ pub fn rule_steps(
                 changed = true;
             }
         }
-        i += 1;
     }
     Steps {
         changed,
@@ -112,22 +105,20 @@ pub fn rule_steps(
 
 // "Passes repeat until one changes nothing or a conflict ends it": one more than there are atoms are enough.
 pub fn propagate(
-    t: &[i32],
-    tb: Table,
+    t: &Accepted,
     places: &[u16],
     candidate: &[u8; 256],
     level: u16,
     values: &mut [u8; 256],
     levels: &mut [u16; 256],
 ) -> Steps
-    requires { Laid t.now tb × AllLie tb t.now places.now × AllDefined tb.atoms (valued candidate.now) × Whole values.old levels.old }
+    requires { AllLie t.now.places t.now.words.now places.now × AllDefined t.now.places.atoms (valued candidate.now) × Whole values.old levels.old }
     ensures { Whole values.new levels.new
-        × Like (work_of level (cells_at values.new levels.new) result.changed result.conflict) (passes (reduct (map (rule_at t.now) places.now) (true_atoms tb.atoms (valued candidate.now))) 0 (suc tb.atoms) (work_of level (cells_at values.old levels.old) false false)) }
+        × Like (work_of level (cells_at values.new levels.new) result.changed result.conflict) (passes (reduct (map (rule_in t.now) places.now) (true_atoms t.now.places.atoms (valued candidate.now))) 0 (suc t.now.places.atoms) (work_of level (cells_at values.old levels.old) false false)) }
 {
-    let mut left = tb.atoms + 1;
     let mut changed = false;
-    while 0 < left {
-        let made = rule_steps(t, tb, places, candidate, level, values, levels);
+    for _pass in 0..t.places.atoms + 1 {
+        let made = rule_steps(t, places, candidate, level, values, levels);
         if made.conflict {
             return made;
         }
@@ -135,7 +126,6 @@ pub fn propagate(
             return made;
         }
         changed = true;
-        left -= 1;
     }
     Steps {
         changed,
@@ -148,33 +138,12 @@ pub fn lacks_one(candidate: &[u8; 256], values: &[u8; 256], n: usize) -> bool
     requires { n ≤ 256 }
     ensures { result ≡ lacks_one n (true_atoms n (valued candidate.now)) (true_atoms n (valued values.now)) }
 {
-    let mut p = n;
-    while 0 < p {
-        if foundation::is_true(candidate, p) {
-            if !foundation::is_true(values, p) {
-                return true;
-            }
+    for p in 1..n + 1 {
+        if foundation::is_true(candidate, p) && !foundation::is_true(values, p) {
+            return true;
         }
-        p -= 1;
     }
     false
-}
-
-// The lowest undefined atom of 1 to n.
-pub fn lowest_undefined(values: &[u8; 256], n: usize) -> Choice
-    requires { n ≤ 256 }
-    ensures { found result ≡ lowest (valued values.now) n }
-{
-    let mut i: usize = 0;
-    while i < n {
-        let value = values[i];
-        if value == 0 {
-            let p = i + 1;
-            return Choice::Atom(p);
-        }
-        i += 1;
-    }
-    Choice::Nothing
 }
 
 // What is to be done after a propagation. "keeping all atoms not counting as smaller": then it goes back as after a conflict.
@@ -192,15 +161,14 @@ pub fn decide(
     if conflict {
         return Turn::Back;
     }
-    let c = lowest_undefined(values, n);
-    match c {
-        Choice::Atom(p) => {
+    match interpretation::lowest_undefined(values, n) {
+        Some(p) => {
             if choices < left {
                 return Turn::Choose(p);
             }
             Turn::Limit
         }
-        Choice::Nothing => {
+        None => {
             if lacks_one(candidate, values, n) {
                 return Turn::Smaller;
             }
@@ -210,11 +178,11 @@ pub fn decide(
 }
 
 // The test of a candidate with so many choices left, over the rules at the places: propagate, then a smaller model is found, or a choice is opened, or it goes back one choice.
-pub fn look(t: &[i32], tb: Table, places: &[u16], candidate: &[u8; 256], left: u32) -> Tested
-    requires { Laid t.now tb × AllLie tb t.now places.now × AllDefined tb.atoms (valued candidate.now) }
-    ensures { tested_of result ≡ smaller_test (map (rule_at t.now) places.now) tb.atoms left (true_atoms tb.atoms (valued candidate.now)) }
+pub fn look(t: &Accepted, places: &[u16], candidate: &[u8; 256], left: u32) -> Tested
+    requires { AllLie t.now.places t.now.words.now places.now × AllDefined t.now.places.atoms (valued candidate.now) }
+    ensures { tested_of result ≡ smaller_test (map (rule_in t.now) places.now) t.now.places.atoms left (true_atoms t.now.places.atoms (valued candidate.now)) }
 {
-    let n = tb.atoms;
+    let n = t.places.atoms;
     let mut values = [0u8; 256];
     let mut levels = [0u16; 256];
     let mut chosen = [0u16; 256];
@@ -222,7 +190,7 @@ pub fn look(t: &[i32], tb: Table, places: &[u16], candidate: &[u8; 256], left: u
     let mut choices: u32 = 0;
     held::start(candidate, n, &mut values, &mut levels);
     loop {
-        let made = propagate(t, tb, places, candidate, depth, &mut values, &mut levels);
+        let made = propagate(t, places, candidate, depth, &mut values, &mut levels);
         let turn = decide(candidate, n, made.conflict, &values, choices, left);
         match turn {
             Turn::Smaller => return Tested::Failed(choices),
@@ -242,18 +210,19 @@ pub fn look(t: &[i32], tb: Table, places: &[u16], candidate: &[u8; 256], left: u
 }
 
 // Whether a candidate has a smaller model, over the rules at the places: "The check makes the test with no limit". The same search; it counts nothing.
-pub fn has_smaller(t: &[i32], tb: Table, places: &[u16], candidate: &[u8; 256]) -> bool
-    requires { Laid t.now tb × AllLie tb t.now places.now × AllDefined tb.atoms (valued candidate.now) }
-    ensures { result ≡ has_smaller (map (rule_at t.now) places.now) tb.atoms (true_atoms tb.atoms (valued candidate.now)) }
+// Stays: a loop beside that of `look`: with no limit a count of the choices fits no width, and one loop for both would test an option at each choice.
+pub fn has_smaller(t: &Accepted, places: &[u16], candidate: &[u8; 256]) -> bool
+    requires { AllLie t.now.places t.now.words.now places.now × AllDefined t.now.places.atoms (valued candidate.now) }
+    ensures { result ≡ has_smaller (map (rule_in t.now) places.now) t.now.places.atoms (true_atoms t.now.places.atoms (valued candidate.now)) }
 {
-    let n = tb.atoms;
+    let n = t.places.atoms;
     let mut values = [0u8; 256];
     let mut levels = [0u16; 256];
     let mut chosen = [0u16; 256];
     let mut depth: u16 = 0;
     held::start(candidate, n, &mut values, &mut levels);
     loop {
-        let made = propagate(t, tb, places, candidate, depth, &mut values, &mut levels);
+        let made = propagate(t, places, candidate, depth, &mut values, &mut levels);
         let turn = decide(candidate, n, made.conflict, &values, 0, 1); // one more choice is always allowed
         match turn {
             Turn::Smaller => return true,

@@ -8,11 +8,10 @@ use lib.Dec.{T}
 use lib.IntN.{ℤ}
 use lib.ListN.{length, take, drop}
 use lib.Seq.{take-append_seam}
+use Rattle.std.specs.Prelude.{Result, Ok, Err}
 use Rattle.meaning.proofs.Cond.{lt_case}
 use Rattle.results.specs.declared.Refusal.{Refusal}
 use Rattle.results.specs.declared.Refusal.TheVariants.{ShortBuffer}
-use Rattle.results.specs.declared.Written.{Written}
-use Rattle.results.specs.declared.Written.TheVariants as result
 use Rattle.table.specs.Contents.{Contents}
 use Rattle.table.specs.Grammar.{Outcome, accepted, refused_for, contents_of}
 use Rattle.table.proofs.Accepted.{accepted≢refused, same_contents}
@@ -25,27 +24,27 @@ abbrev refusal_in : Refusal → Outcome → Refusal
 refusal_in d (accepted c) = d
 refusal_in d (refused_for f) = f
 
-abbrev wrote_in : Written → ℕ
-wrote_in (result.Wrote n) = n
-wrote_in (result.Refused f) = 0
+abbrev wrote_in : Result ℕ Refusal → ℕ
+wrote_in (Ok n) = n
+wrote_in (Err f) = 0
 
-abbrev is_wrote : Written → Bool
-is_wrote (result.Wrote n) = true
-is_wrote (result.Refused f) = false
+abbrev is_wrote : Result ℕ Refusal → Bool
+is_wrote (Ok n) = true
+is_wrote (Err f) = false
 
-refused≢wrote {ℓ} : {X : Type ℓ} (f : Refusal) (n : ℕ) → result.Refused f ≡ result.Wrote n → X
+refused≢wrote {ℓ} : {X : Type ℓ} (f : Refusal) (n : ℕ) → ◌≡◌ {A = Result ℕ Refusal} (Err f) (Ok n) → X
 refused≢wrote f n e = absurd (subst T (sym (ap is_wrote e)) tt)
 
 module _ (t : List ℤ) (old : List ℕ) where
-  pub shows_refused : (f : Refusal) → contents_of t ≡ refused_for f → Shows t old old (result.Refused f)
+  pub shows_refused : (f : Refusal) → contents_of t ≡ refused_for f → Shows t old old (Err f)
   shows_refused f e = record {
-    refused = λ g k. (ap result.Refused (ap (refusal_in f) (sym e ∙ k)), refl);
+    refused = λ g k. (ap Err (ap (refusal_in f) (sym e ∙ k)), refl);
     wrote = λ c k. accepted≢refused (sym k ∙ e);
     back = λ n k. refused≢wrote f n k;
   }
 
-  module _ (new : List ℕ) (r : Written) (c : Contents) (e : contents_of t ≡ accepted c) (l : Laying (text_of c) old new r) where
-    reads_back : (n : ℕ) → r ≡ result.Wrote n → (length old < length (text_of c)) ⊎ (length (text_of c) ≤ length old) → read_text (take n new) ≡ words t
+  module _ (new : List ℕ) (r : Result ℕ Refusal) (c : Contents) (e : contents_of t ≡ accepted c) (l : Laying (text_of c) old new r) where
+    reads_back : (n : ℕ) → r ≡ Ok n → (length old < length (text_of c)) ⊎ (length (text_of c) ≤ length old) → read_text (take n new) ≡ words t
     reads_back n k (inl h) = refused≢wrote ShortBuffer n (sym (l.short h).0 ∙ k)
     reads_back n k (inr h) =
         let m : length (text_of c) ≡ n = ap wrote_in (sym (l.fits h).0 ∙ k) in

@@ -6,14 +6,13 @@ use native.Mathlib.Omega.{arith}
 use lib.IntN.{ℤ, pos, nat_abs}
 use lib.ListN.{length, get_or, drop}
 use lib.Seq.{ext_get_or}
+use Rattle.std.specs.Prelude.{Ok}
 use Rattle.layout.specs.Layout as layout
 use Rattle.layout.specs.Layout.{part_at, pos_at, neg_at, aggs_at, past_rule, aggregate_at, start_from, Laid}
 use Rattle.layout.specs.declared.Table.{Table}
 use Rattle.table.specs.Contents.{NumberedRule, Contents, encode_list, encode_atoms, encode_aggregate, encode_rule, encode_all, encode, no_aggregate}
 use Rattle.table.specs.Grammar.{accepted, contents_of}
 use Rattle.table.specs.Places.{table_of, reading_of}
-use Rattle.table.specs.declared.Fault.TheVariants as fault
-use Rattle.table.specs.declared.Reading.{Reading}
 use Rattle.table.proofs.Drops.{at_next, at_skip}
 use Rattle.table.proofs.LaidRules.{atoms_back, list_part, list_next_lem}
 use Rattle.table.proofs.Accepted.{accepted_encoding, accepted_laid, accepted_aggregate, fault_nothing}
@@ -102,13 +101,12 @@ pub record Taken (t : List ℤ) (tb : Table) : Type 0 where
   pub laid : Laid t tb
   pub held : held_by t tb ≡ contents
 
-pub reading_taken : (t : List ℤ) (r : Reading) → r ≡ reading_of t → r.fault ≡ fault.Nothing → Taken t r.table
-reading_taken t r e i =
-    let k = fault_nothing t (sym (ap (λ (x : Reading). x.fault) e) ∙ i) in
-    let m : r.table ≡ table_of k.0 = ap (λ (x : Reading). x.table) e ∙ k.2 in
+pub reading_taken : (t : List ℤ) (tb : Table) → reading_of t ≡ Ok tb → Taken t tb
+reading_taken t tb e =
+    let k = fault_nothing t tb e in
     record {
       contents = k.0;
       accepted = k.1;
-      laid = subst (Laid t) (sym m) (accepted_laid t k.0 k.1);
-      held = ap (held_by t) m ∙ held_is t k.0 k.1;
+      laid = subst (Laid t) (sym k.2) (accepted_laid t k.0 k.1);
+      held = ap (held_by t) k.2 ∙ held_is t k.0 k.1;
     }

@@ -5,13 +5,14 @@ use mathlib.Core.List.{List}
 use Prim.Native.Nat.{ℕ, ◌≤◌, ◌<◌}
 use lib.IntN.{ℤ}
 use lib.ListN.{length}
+use Rattle.std.specs.Prelude.{Result}
 use Rattle.meaning.proofs.Cond.{lt_case}
-use Rattle.results.specs.declared.Written.{Written}
+use Rattle.results.specs.declared.Refusal.{Refusal}
 use Rattle.table.specs.Grammar.{Outcome, accepted, refused_for, contents_of}
 use Rattle.notation.specs.Notation.{text_of}
 use Rattle.show.specs.Promise.{Laying, Shows}
 
-module _ {text old new new' : List ℕ} {r r' : Written} (a : Laying text old new r) (b : Laying text old new' r') where
+module _ {text old new new' : List ℕ} {r r' : Result ℕ Refusal} (a : Laying text old new r) (b : Laying text old new' r') where
   laying_unique : (length old < length text) ⊎ (length text ≤ length old) → (r ≡ r') × (new ≡ new')
   laying_unique (inl h) =
       let x = a.short h in
@@ -22,7 +23,7 @@ module _ {text old new new' : List ℕ} {r r' : Written} (a : Laying text old ne
       let y = b.fits h in
       (x.0 ∙ sym y.0, x.1 ∙ sym y.1)
 
-module _ (t : List ℤ) (old : List ℕ) (new new' : List ℕ) (r r' : Written) (a : Shows t old new r) (b : Shows t old new' r') where
+module _ (t : List ℤ) (old : List ℕ) (new new' : List ℕ) (r r' : Result ℕ Refusal) (a : Shows t old new r) (b : Shows t old new' r') where
   pub shows_unique : (r ≡ r') × (new ≡ new')
   shows_unique = by (contents_of t) refl
     where

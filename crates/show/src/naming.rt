@@ -1,11 +1,12 @@
 // How many aggregates need a name: those after them are taken in turn by the literals of the rules, each once. Meaning: `notation`, `named`.
 ghost use Rattle.std.specs.Prelude.{◌≡◌, ◌<◌, ◌≤◌, pos, length, get_or};
-ghost use Rattle.layout.specs.Layout.{Laid, Members, nat_at};
+ghost use Rattle.layout.specs.Layout.{Members, nat_at};
 ghost use Rattle.notation.specs.Notation as N;
 ghost use Rattle.aspif_parts.specs.Held.{numbered_from, held_by};
 
-use layout::Table;
+use layout::Accepted;
 
+// Stays: 0 says that no turn can follow, as `turn` of crate `notation` has it, whose meaning may not change.
 // The aggregate whose turn it is after the literal at index i of a list, or 0.
 fn turn(l: &[i32], i: usize, d: usize, e: usize) -> usize
     requires { (i < length l.now) × (nat_at l.now i ≤ 64) }
@@ -27,43 +28,36 @@ fn turns(l: &[i32], d: usize, e: usize) -> usize
     ensures { result ≡ N.turns d e l.now }
 {
     let mut next = e;
-    let mut i: usize = 0;
-    while i < l.len() {
+    for i in 0..l.len() {
         next = turn(l, i, d, next);
-        i += 1;
     }
     next
 }
 
 // Whether the aggregates after d are taken in turn, to the last.
-fn in_turn(t: &[i32], tb: Table, d: usize) -> bool
-    requires { Laid t.now tb × (d < 64) }
-    ensures { result ≡ N.in_turn (held_by t.now tb) d }
+fn in_turn(t: &Accepted, d: usize) -> bool
+    requires { (d < 64) }
+    ensures { result ≡ N.in_turn (held_by t.now.words.now t.now.places) d }
 {
     let mut next = d + 1;
-    let mut rule = tb.first;
-    let mut left = tb.rules;
-    while 0 < left {
-        let literals = layout::literals_at(t, rule);
-        next = turns(layout::part(t, literals), d, next);
-        rule = layout::past_rule(t, rule);
-        left -= 1;
+    let mut rule = t.places.first;
+    for _ in 0..t.places.rules {
+        let literals = layout::literals_at(t.words, rule);
+        next = turns(layout::part(t.words, literals), d, next);
+        rule = layout::past_rule(t.words, rule);
     }
-    next == tb.aggregates + 1
+    next == t.places.aggregates + 1
 }
 
 // The least number of names that does.
-pub fn named(t: &[i32], tb: Table) -> usize
-    requires { Laid t.now tb }
-    ensures { result ≡ N.named (held_by t.now tb) }
+pub fn named(t: &Accepted) -> usize
+    ensures { result ≡ N.named (held_by t.now.words.now t.now.places) }
 {
-    let most = tb.aggregates;
-    let mut d: usize = 0;
-    while d < most {
-        if in_turn(t, tb, d) {
+    let most = t.places.aggregates;
+    for d in 0..most {
+        if in_turn(t, d) {
             return d;
         }
-        d += 1;
     }
-    d
+    most
 }

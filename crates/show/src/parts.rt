@@ -1,7 +1,7 @@
 // Parts of a text with something between them: atoms, the elements of an aggregate. Meaning: `notation`, `specs/Notation.antt`.
 ghost use Rattle.std.specs.Prelude.{◌≡◌, map, ◌++◌, ◌+◌, ◌<◌, ◌≤◌, pos, length, get_or};
 ghost use Rattle.layout.specs.Layout as L;
-ghost use Rattle.layout.specs.Layout.{pairs, nat_at, function_by, comparison_by, aggregate_at, past_aggregate};
+ghost use Rattle.layout.specs.Layout.{pairs, nat_at, aggregate_at, past_aggregate};
 ghost use Rattle.bytes_out.specs.Putting.{Put};
 ghost use Rattle.notation.specs.Notation as N;
 ghost use Rattle.notation.specs.Notation.{before, joined_from, comma, atom_text, element_text, function_text, comparison_text, threshold_text, aggregate_text};
@@ -15,7 +15,7 @@ use meaning::{Comparison, Function};
 pub fn some(l: &[i32]) -> bool
     ensures { result ≡ N.some l.now }
 {
-    0 < l.len()
+    !l.is_empty()
 }
 
 // What stands between two parts, if one stands before.
@@ -46,6 +46,7 @@ fn put_atom(
     put_number(words::atom(l, i), after_word, out)
 }
 
+// Stays: three short walks, this one, `put_elements` and `put_literals`: one walk would take a closure, and its contract what that puts.
 // Atoms, each with a word before it.
 pub fn put_atoms(
     l: &[i32],
@@ -59,11 +60,9 @@ pub fn put_atoms(
 {
     let mut to = at;
     let mut follows = behind;
-    let mut i: usize = 0;
-    while i < l.len() {
+    for i in 0..l.len() {
         to = put_atom(l, i, word, between, follows, to, out);
         follows = true;
-        i += 1;
     }
     to
 }
@@ -86,11 +85,9 @@ fn put_elements(l: &[i32], at: usize, out: &mut [u8]) -> usize
 {
     let mut to = at;
     let mut follows = false;
-    let mut i: usize = 0;
-    while i + 1 < l.len() {
-        to = put_element(l, i, follows, to, out);
+    for j in 0..l.len() / 2 {
+        to = put_element(l, 2 * j, follows, to, out);
         follows = true;
-        i += 2;
     }
     to
 }

@@ -1,7 +1,8 @@
 // The rules of a table as lines, each after its number. Meaning: `notation`, `rule_text` and `rules_text`.
 ghost use Rattle.std.specs.Prelude.{◌≡◌, cond, map, ◌++◌, ◌<◌, ◌≤◌, leb, pos, length, get_or};
 ghost use Rattle.layout.specs.Layout as L;
-ghost use Rattle.layout.specs.Layout.{Laid, Members, RuleLies};
+ghost use Rattle.layout.specs.Accepted.{RuleIn};
+ghost use Rattle.layout.specs.Layout.{Members};
 ghost use Rattle.table.specs.Contents.{aggregate_by};
 ghost use Rattle.bytes_out.specs.Putting.{Put};
 ghost use Rattle.notation.specs.Notation as N;
@@ -11,7 +12,7 @@ ghost use Rattle.aspif_parts.specs.Held.{numbered_at, numbered_from, held_by};
 use crate::parts::{put_aggregate, put_atoms, put_between, some};
 use aspif_parts::{negated, start};
 use bytes_out::{put, put_byte, put_number};
-use layout::Table;
+use layout::Accepted;
 
 // The name of an aggregate.
 pub fn put_name(j: usize, at: usize, out: &mut [u8]) -> usize
@@ -22,21 +23,20 @@ pub fn put_name(j: usize, at: usize, out: &mut [u8]) -> usize
 }
 
 // Aggregate j: its name if it has one, or written out.
-fn put_reference(t: &[i32], tb: Table, d: usize, j: usize, at: usize, out: &mut [u8]) -> usize
-    requires { Laid t.now tb × (1 ≤ j) × (j ≤ tb.aggregates) }
-    ensures { Put out.old at (cond (leb j d) (name_text j) (aggregate_text (aggregate_by (held_by t.now tb).aggregates j))) result out.new }
+fn put_reference(t: &Accepted, d: usize, j: usize, at: usize, out: &mut [u8]) -> usize
+    requires { (1 ≤ j) × (j ≤ t.now.places.aggregates) }
+    ensures { Put out.old at (cond (leb j d) (name_text j) (aggregate_text (aggregate_by (held_by t.now.words.now t.now.places).aggregates j))) result out.new }
 {
     if j <= d {
         return put_name(j, at, out);
     }
     let place = j - 1;
-    put_aggregate(t, start(tb, place), at, out)
+    put_aggregate(t.words, start(t.places, place), at, out)
 }
 
 // The aggregate literal at index i of a rule's list.
 fn put_literal(
-    t: &[i32],
-    tb: Table,
+    t: &Accepted,
     d: usize,
     l: &[i32],
     i: usize,
@@ -44,34 +44,24 @@ fn put_literal(
     at: usize,
     out: &mut [u8],
 ) -> usize
-    requires { Laid t.now tb × Members tb.aggregates l.now × (i < length l.now) }
-    ensures { Put out.old at (before comma behind ++ literal_text d (held_by t.now tb).aggregates (get_or l.now i (pos 0))) result out.new }
+    requires { Members t.now.places.aggregates l.now × (i < length l.now) }
+    ensures { Put out.old at (before comma behind ++ literal_text d (held_by t.now.words.now t.now.places).aggregates (get_or l.now i (pos 0))) result out.new }
 {
     let after_between = put_between(b", ", behind, at, out);
     let after_not = put_between(b"not ", negated(l, i), after_between, out);
-    put_reference(t, tb, d, words::atom(l, i), after_not, out)
+    put_reference(t, d, words::atom(l, i), after_not, out)
 }
 
 // The aggregate literals of a rule.
-fn put_literals(
-    t: &[i32],
-    tb: Table,
-    d: usize,
-    l: &[i32],
-    behind: bool,
-    at: usize,
-    out: &mut [u8],
-) -> usize
-    requires { Laid t.now tb × Members tb.aggregates l.now }
-    ensures { Put out.old at (joined_from comma behind (map (literal_text d (held_by t.now tb).aggregates) l.now)) result out.new }
+fn put_literals(t: &Accepted, d: usize, l: &[i32], behind: bool, at: usize, out: &mut [u8]) -> usize
+    requires { Members t.now.places.aggregates l.now }
+    ensures { Put out.old at (joined_from comma behind (map (literal_text d (held_by t.now.words.now t.now.places).aggregates) l.now)) result out.new }
 {
     let mut to = at;
     let mut follows = behind;
-    let mut i: usize = 0;
-    while i < l.len() {
-        to = put_literal(t, tb, d, l, i, follows, to, out);
+    for i in 0..l.len() {
+        to = put_literal(t, d, l, i, follows, to, out);
         follows = true;
-        i += 1;
     }
     to
 }
@@ -88,8 +78,7 @@ fn put_neck(head: bool, body: bool, at: usize, out: &mut [u8]) -> usize
 
 // A body of three lists: positive atoms, negated atoms, aggregate literals.
 fn put_body(
-    t: &[i32],
-    tb: Table,
+    t: &Accepted,
     d: usize,
     positive: &[i32],
     barred: &[i32],
@@ -97,20 +86,19 @@ fn put_body(
     at: usize,
     out: &mut [u8],
 ) -> usize
-    requires { Laid t.now tb × Members tb.aggregates literals.now }
-    ensures { Put out.old at (joined comma (body_parts d (held_by t.now tb).aggregates (L.atoms positive.now) (L.atoms barred.now) literals.now)) result out.new }
+    requires { Members t.now.places.aggregates literals.now }
+    ensures { Put out.old at (joined comma (body_parts d (held_by t.now.words.now t.now.places).aggregates (L.atoms positive.now) (L.atoms barred.now) literals.now)) result out.new }
 {
     let one = some(positive);
     let two = one | some(barred);
     let after_positive = put_atoms(positive, b"", b", ", false, at, out);
     let after_barred = put_atoms(barred, b"not ", b", ", one, after_positive, out);
-    put_literals(t, tb, d, literals, two, after_barred, out)
+    put_literals(t, d, literals, two, after_barred, out)
 }
 
 // A rule of four lists.
 fn put_lists(
-    t: &[i32],
-    tb: Table,
+    t: &Accepted,
     d: usize,
     head: &[i32],
     positive: &[i32],
@@ -119,63 +107,50 @@ fn put_lists(
     at: usize,
     out: &mut [u8],
 ) -> usize
-    requires { Laid t.now tb × Members tb.aggregates literals.now }
-    ensures { Put out.old at (lists_text d (held_by t.now tb).aggregates (L.atoms head.now) (L.atoms positive.now) (L.atoms barred.now) literals.now) result out.new }
+    requires { Members t.now.places.aggregates literals.now }
+    ensures { Put out.old at (lists_text d (held_by t.now.words.now t.now.places).aggregates (L.atoms head.now) (L.atoms positive.now) (L.atoms barred.now) literals.now) result out.new }
 {
     let body = some(positive) | some(barred) | some(literals);
     let after_head = put_atoms(head, b"", b" | ", false, at, out);
     let after_neck = put_neck(some(head), body, after_head, out);
-    let after_body = put_body(t, tb, d, positive, barred, literals, after_neck, out);
+    let after_body = put_body(t, d, positive, barred, literals, after_neck, out);
     put(b".\n", after_body, out)
 }
 
 // The rule that begins at `rule`.
-pub fn put_rule(t: &[i32], tb: Table, d: usize, rule: usize, at: usize, out: &mut [u8]) -> usize
-    requires { Laid t.now tb × RuleLies tb.atoms tb.aggregates t.now rule }
-    ensures { Put out.old at (rule_text d (held_by t.now tb).aggregates (numbered_at t.now rule)) result out.new }
+pub fn put_rule(t: &Accepted, d: usize, rule: usize, at: usize, out: &mut [u8]) -> usize
+    requires { RuleIn t.now rule }
+    ensures { Put out.old at (rule_text d (held_by t.now.words.now t.now.places).aggregates (numbered_at t.now.words.now rule)) result out.new }
 {
-    let positive = layout::past(t, rule);
-    let barred = layout::past(t, positive);
-    let literals = layout::past(t, barred);
-    let h = layout::part(t, rule);
-    let p = layout::part(t, positive);
-    let b = layout::part(t, barred);
-    let l = layout::part(t, literals);
-    put_lists(t, tb, d, h, p, b, l, at, out)
+    let positive = layout::past(t.words, rule);
+    let barred = layout::past(t.words, positive);
+    let literals = layout::past(t.words, barred);
+    let h = layout::part(t.words, rule);
+    let p = layout::part(t.words, positive);
+    let b = layout::part(t.words, barred);
+    let l = layout::part(t.words, literals);
+    put_lists(t, d, h, p, b, l, at, out)
 }
 
 // A rule after its number.
-fn put_line(
-    t: &[i32],
-    tb: Table,
-    d: usize,
-    number: usize,
-    rule: usize,
-    at: usize,
-    out: &mut [u8],
-) -> usize
-    requires { Laid t.now tb × RuleLies tb.atoms tb.aggregates t.now rule }
-    ensures { Put out.old at (rule_line d (held_by t.now tb).aggregates number (numbered_at t.now rule)) result out.new }
+fn put_line(t: &Accepted, d: usize, number: usize, rule: usize, at: usize, out: &mut [u8]) -> usize
+    requires { RuleIn t.now rule }
+    ensures { Put out.old at (rule_line d (held_by t.now.words.now t.now.places).aggregates number (numbered_at t.now.words.now rule)) result out.new }
 {
     let after_number = put_number(number, at, out);
     let after_colon = put(b": ", after_number, out);
-    put_rule(t, tb, d, rule, after_colon, out)
+    put_rule(t, d, rule, after_colon, out)
 }
 
 // All rules, in table order.
-pub fn put_rules(t: &[i32], tb: Table, d: usize, at: usize, out: &mut [u8]) -> usize
-    requires { Laid t.now tb }
-    ensures { Put out.old at (rules_text d (held_by t.now tb).aggregates 1 (held_by t.now tb).rules) result out.new }
+pub fn put_rules(t: &Accepted, d: usize, at: usize, out: &mut [u8]) -> usize
+    ensures { Put out.old at (rules_text d (held_by t.now.words.now t.now.places).aggregates 1 (held_by t.now.words.now t.now.places).rules) result out.new }
 {
     let mut to = at;
-    let mut rule = tb.first;
-    let mut number: usize = 1;
-    let mut left = tb.rules;
-    while 0 < left {
-        to = put_line(t, tb, d, number, rule, to, out);
-        rule = layout::past_rule(t, rule);
-        number += 1;
-        left -= 1;
+    let mut rule = t.places.first;
+    for i in 0..t.places.rules {
+        to = put_line(t, d, i + 1, rule, to, out);
+        rule = layout::past_rule(t.words, rule);
     }
     to
 }

@@ -3,6 +3,7 @@ use mathlib.Core.Path.{◌≡◌, refl, sym, ◌∙◌, ap, subst}
 use mathlib.Core.Logic.{◌⊎◌, inl, inr, ◌↔◌}
 use mathlib.Core.Bool.{Bool, true, false, not}
 use mathlib.Core.List.{List}
+use Rattle.std.specs.Prelude.{Option, Some, None, Result, Ok, Err}
 use Prim.Native.Nat.{ℕ, zero, suc, ◌≤◌, ◌<◌}
 use native.Mathlib.Omega.{arith}
 use lib.Dec.{eqb}
@@ -21,8 +22,6 @@ use Rattle.smaller.specs.Cyclic.{has_smaller, checks}
 use Rattle.smaller.proofs.Check.{checked}
 use Rattle.results.specs.declared.Refusal.{Refusal}
 use Rattle.results.specs.declared.Refusal.TheVariants as refusal
-use Rattle.results.specs.declared.Checked.{Checked}
-use Rattle.results.specs.declared.Checked.TheVariants as told
 use Rattle.results.specs.Results.{number_of, place_of, CheckReport, check_report_of, refusal_check}
 use Rattle.results.proofs.Determined.{check_refusal}
 use Rattle.table.specs.Contents.{Contents, program}
@@ -34,8 +33,6 @@ use Rattle.judging.proofs.Refusals.{accepted_unique, refused_not_accepted, refus
 use Rattle.promises.specs.Plans.{plan_atoms}
 use Rattle.solver.specs.Approving.{CheckRefusedBy, before, byte, Bits, BadByte, ApprovingBy}
 use Rattle.solver.specs.Plans.{bad_from, passes_by, checked_by}
-use Rattle.solver.specs.declared.plans.Offer.{Offer}
-use Rattle.solver.specs.declared.plans.Offer.TheVariants as offer
 use Rattle.solver.proofs.Offered.{bad_byte, good_bits}
 
 -- ---- a plan's atoms are atoms of 1 to n
@@ -90,7 +87,7 @@ module _ (cycles : Bool) (t : List ℤ) (plan : List ℕ) where
   good_not_refused c a b n i (before h) = refused_not_accepted t room n i c h a
   good_not_refused c a b n i (byte d e h w) = let k = subst (λ (x : Contents). BadByte x.atoms plan i) (accepted_unique t room d c e a) h in k.bad (b i k.inside)
 
-  module _ (r : Checked) (f : Refusal) (h : CheckRefusedBy cycles t plan (number_of f) (place_of f)) (e : r ≡ told.Refused f) where
+  module _ (r : Result Bool Refusal) (f : Refusal) (h : CheckRefusedBy cycles t plan (number_of f) (place_of f)) (e : r ≡ Err f) where
     said : check_report_of r ≡ refusal_check (number_of f) (place_of f)
     said = ap check_report_of e
 
@@ -116,10 +113,10 @@ module _ (cycles : Bool) (t : List ℤ) (plan : List ℕ) where
     Answers = AnswerSet (program c) (plan_atoms c.atoms plan)
 
     -- yes exactly for an answer set, and no exactly else
-    pub record Judges (r : Checked) : Type 0 where
-      pub yes : (r ≡ told.Yes) ↔ Answers
-      pub no : (r ≡ told.No) ↔ (Answers → ⊥)
-      pub taken : (f : Refusal) → r ≡ told.Refused f → ⊥
+    pub record Judges (r : Result Bool Refusal) : Type 0 where
+      pub yes : (r ≡ Ok true) ↔ Answers
+      pub no : (r ≡ Ok false) ↔ (Answers → ⊥)
+      pub taken : (f : Refusal) → r ≡ Err f → ⊥
 
     tested : Is (model (program c) (plan_atoms c.atoms plan)) → Is (passes_by cycles (program c) c.atoms (plan_atoms c.atoms plan)) → Answers
     tested m f = tested_answer c.atoms (program c) A a.no_aggregate (plan_atoms c.atoms plan) (plan_range c.atoms plan) cycles a.no_head m f
@@ -127,8 +124,8 @@ module _ (cycles : Bool) (t : List ℤ) (plan : List ℕ) where
     answers : Answers → Is (model (program c) (plan_atoms c.atoms plan)) × Is (passes_by cycles (program c) c.atoms (plan_atoms c.atoms plan))
     answers h = answer_tested c.atoms (program c) A a.no_aggregate (plan_atoms c.atoms plan) (plan_range c.atoms plan) cycles a.no_head h
 
-    judges : (r : Checked) (m f : Bool) → model (program c) (plan_atoms c.atoms plan) ≡ m → passes_by cycles (program c) c.atoms (plan_atoms c.atoms plan) ≡ f
-        → r ≡ checked_by offer.Good m f → Judges r
+    judges : (r : Result Bool Refusal) (m f : Bool) → model (program c) (plan_atoms c.atoms plan) ≡ m → passes_by cycles (program c) c.atoms (plan_atoms c.atoms plan) ≡ f
+        → r ≡ checked_by None m f → Judges r
     judges r true true m f e = record {
       yes = (λ i. tested m f, λ h. e);
       no = (λ i. absurd (let z : ◌≡◌ {A = ℕ} 0 1 = cc in omega arith), λ h. absurd (h (tested m f)));
@@ -145,20 +142,20 @@ module _ (cycles : Bool) (t : List ℤ) (plan : List ℕ) where
       taken = λ g i. (let z : ◌≡◌ {A = ℕ} 0 1 = cc in omega arith);
     }
 
-    approves : (r : Checked) → Bits c.atoms plan → Judges r → ApprovingBy cycles t plan r
+    approves : (r : Result Bool Refusal) → Bits c.atoms plan → Judges r → ApprovingBy cycles t plan r
     approves r bits j = record {
       refused = λ n i. (λ h. let w = check_refusal r n i h in absurd (j.taken w.0 w.1), λ h. absurd (good_not_refused c a bits n i h));
-      yes = λ d b k. subst (λ (x : Contents). (r ≡ told.Yes) ↔ AnswerSet (program x) (plan_atoms x.atoms plan)) (accepted_unique t room c d a b) j.yes;
-      no = λ d b k. subst (λ (x : Contents). (r ≡ told.No) ↔ (AnswerSet (program x) (plan_atoms x.atoms plan) → ⊥)) (accepted_unique t room c d a b) j.no;
+      yes = λ d b k. subst (λ (x : Contents). (r ≡ Ok true) ↔ AnswerSet (program x) (plan_atoms x.atoms plan)) (accepted_unique t room c d a b) j.yes;
+      no = λ d b k. subst (λ (x : Contents). (r ≡ Ok false) ↔ (AnswerSet (program x) (plan_atoms x.atoms plan) → ⊥)) (accepted_unique t room c d a b) j.no;
     }
 
-    pub approving_accepted : (r : Checked)
+    pub approving_accepted : (r : Result Bool Refusal)
         → r ≡ checked_by (bad_from plan 0 c.atoms) (model (program c) (plan_atoms c.atoms plan)) (passes_by cycles (program c) c.atoms (plan_atoms c.atoms plan)) → ApprovingBy cycles t plan r
     approving_accepted r e = at (bad_from plan 0 c.atoms) refl
       where
-        by : (o : Offer) → bad_from plan 0 c.atoms ≡ o → r ≡ checked_by o (model (program c) (plan_atoms c.atoms plan)) (passes_by cycles (program c) c.atoms (plan_atoms c.atoms plan))
-        by o i = e ∙ ap (λ (x : Offer). checked_by x (model (program c) (plan_atoms c.atoms plan)) (passes_by cycles (program c) c.atoms (plan_atoms c.atoms plan))) i
+        by : (o : Option ℕ) → bad_from plan 0 c.atoms ≡ o → r ≡ checked_by o (model (program c) (plan_atoms c.atoms plan)) (passes_by cycles (program c) c.atoms (plan_atoms c.atoms plan))
+        by o i = e ∙ ap (λ (x : Option ℕ). checked_by x (model (program c) (plan_atoms c.atoms plan)) (passes_by cycles (program c) c.atoms (plan_atoms c.atoms plan))) i
 
-        at : (o : Offer) → bad_from plan 0 c.atoms ≡ o → ApprovingBy cycles t plan r
-        at (offer.Bad j) i = approving_refused r (refusal.PlanByte j) (byte c a (bad_byte plan c.atoms j i) refl) (by (offer.Bad j) i)
-        at offer.Good i = approves r (good_bits plan c.atoms i) (judges r _ _ refl refl (by offer.Good i))
+        at : (o : Option ℕ) → bad_from plan 0 c.atoms ≡ o → ApprovingBy cycles t plan r
+        at (Some j) i = approving_refused r (refusal.PlanByte j) (byte c a (bad_byte plan c.atoms j i) refl) (by (Some j) i)
+        at None i = approves r (good_bits plan c.atoms i) (judges r _ _ refl refl (by None i))

@@ -2,6 +2,7 @@
 use mathlib.Core.Path.{◌≡◌, refl, sym, ◌∙◌, ap, subst}
 use mathlib.Core.Option.{some}
 use mathlib.Core.List.{List}
+use Rattle.std.specs.Prelude.{Result, Ok, Err}
 use Prim.Native.Nat.{ℕ}
 use lib.IntN.{ℤ}
 use lib.ListN.{length}
@@ -9,7 +10,6 @@ use Rattle.meaning.specs.Program.{AtomsIn}
 use Rattle.results.specs.declared.Refusal.{Refusal}
 use Rattle.results.specs.declared.Ask.{Ask}
 use Rattle.results.specs.declared.Solved.{Solved}
-use Rattle.results.specs.declared.Solved.TheVariants as solved
 use Rattle.results.specs.Results.{number_of, place_of, Report, report_of, refusal_report}
 use Rattle.meaning.specs.Answers.{AnswerSet}
 use Rattle.search.specs.Search.{Outcome, jump, solve}
@@ -24,7 +24,7 @@ use Rattle.promises.specs.Promises.{counted, reported, plan_after, Meaning, Sear
 use Rattle.promises.proofs.Kept.{means, searches}
 use Rattle.solver.specs.Solving.{Solving}
 
-module _ (t : List ℤ) (ask : Ask) (old new : List ℕ) (r : Solved) (f : Refusal) (h : RefusedBy ask.cycles t (Plan (length old)) (number_of f) (place_of f)) (e : r ≡ solved.Refused f) where
+module _ (t : List ℤ) (ask : Ask) (old new : List ℕ) (r : Result Solved Refusal) (f : Refusal) (h : RefusedBy ask.cycles t (Plan (length old)) (number_of f) (place_of f)) (e : r ≡ Err f) where
   told : report_of r ≡ refusal_report (number_of f) (place_of f)
   told = ap report_of e
 
@@ -47,8 +47,8 @@ module _ (t : List ℤ) (ask : Ask) (old new : List ℕ) (r : Solved) (f : Refus
     searching = λ c a. absurd (refused_not_accepted t (Plan (length old)) (number_of f) (place_of f) c h a);
   }
 
-pub solving_accepted : (t : List ℤ) (ask : Ask) (old new : List ℕ) (r : Solved) (c : Contents) → AcceptedBy ask.cycles t (Plan (length old)) c → AtomsIn c.atoms (program c)
-    → (o : Outcome) → solve (base_by ask.cycles (program c) c.atoms) jump ask.limit ≡ some o → r ≡ reported o → new ≡ plan_after c.atoms o.result old → Solving t ask old new r
+pub solving_accepted : (t : List ℤ) (ask : Ask) (old new : List ℕ) (r : Result Solved Refusal) (c : Contents) → AcceptedBy ask.cycles t (Plan (length old)) c → AtomsIn c.atoms (program c)
+    → (o : Outcome) → solve (base_by ask.cycles (program c) c.atoms) jump ask.limit ≡ some o → r ≡ Ok (reported o) → new ≡ plan_after c.atoms o.result old → Solving t ask old new r
 solving_accepted t ask old new r c a A o e told kept =
     let L = mode_base_laws ask.cycles c.atoms (program c) A (heads_free t (Plan (length old)) c a) a.no_aggregate in
     let m = means (AnswerSet (program c)) (base_by ask.cycles (program c) c.atoms) L refl ask.limit old new r jump o e (counted o) refl told kept in

@@ -4,6 +4,7 @@ use mathlib.Core.Path.{◌≡◌, refl, sym, ◌∙◌, ap, subst, fun_ext}
 use mathlib.Core.Logic.{◌⊎◌, inl, inr}
 use mathlib.Core.Bool.{Bool, true, false}
 use mathlib.Core.List.{List, [], ◌++◌}
+use Rattle.std.specs.Prelude.{Ok, Err}
 use Prim.Native.Nat.{ℕ, zero, suc, ◌+◌, ◌≤◌, ◌<◌}
 use native.Mathlib.Omega.{arith}
 use native.Mathlib.Numerals.{add-one}
@@ -116,7 +117,7 @@ whys_written_lem n P r old new q e f =
 
 -- ---- the promise
 
-pub explaining_refused : (t : List ℤ) (b : Buffer) (plan : List ℕ) (f : Refusal) (ws : List Why) → Recorded ws no_whys → Explaining t b plan (solved.Refused f) ws
+pub explaining_refused : (t : List ℤ) (b : Buffer) (plan : List ℕ) (f : Refusal) (ws : List Why) → Recorded ws no_whys → Explaining t b plan (Err f) ws
 explaining_refused t b plan f ws r = record { answers = λ c a k. absurd (omega arith); others = λ n. r }
 
 module _ (t : List ℤ) (lim : ℕ) (old new : List ℕ) (c : Contents) (a : Accepted t (Plan (length old)) c) (A : AtomsIn c.atoms (program c))
@@ -125,13 +126,13 @@ module _ (t : List ℤ) (lim : ℕ) (old new : List ℕ) (c : Contents) (a : Acc
   X = plan_atoms c.atoms new
 
   -- what the plan says is the answer set
-  plan_answers : (k : Counts) → Meaning c.atoms AS lim old new (solved.Answer k) → AnswerSet (program c) X
+  plan_answers : (k : Counts) → Meaning c.atoms AS lim old new (Ok (solved.Answer k)) → AnswerSet (program c) X
   plan_answers k m =
       let x = m.answers k refl in
       let n = c.atoms in
       subst (AnswerSet (program c)) (sym (ap (plan_atoms n) x.written ∙ plan_atoms_lem n x.atoms old (answer_range n (program c) A x.atoms (answers x.atoms x.is_answer)))) (answers x.atoms x.is_answer)
 
-  pub explaining_accepted : (r : Solved) → Meaning c.atoms AS lim old new r → Recorded ws (whys_for r (why_of (program c) c.atoms X)) → Explaining t (Plan (length old)) new r ws
+  pub explaining_accepted : (r : Solved) → Meaning c.atoms AS lim old new (Ok r) → Recorded ws (whys_for r (why_of (program c) c.atoms X)) → Explaining t (Plan (length old)) new (Ok r) ws
   explaining_accepted (solved.Answer k) m w = record {
     answers = λ d b e. subst (λ (x : Contents). Explained (program x) x.atoms (plan_atoms x.atoms new) ws) (accepted_unique t (Plan (length old)) c d a b)
         (answer_recorded c.atoms (program c) A a.no_head X (plan_answers k m) ws w);
@@ -139,17 +140,16 @@ module _ (t : List ℤ) (lim : ℕ) (old new : List ℕ) (c : Contents) (a : Acc
   }
   explaining_accepted (solved.Nothing k) m w = record { answers = λ d b e. absurd (omega arith); others = λ n. w }
   explaining_accepted (solved.Limit k) m w = record { answers = λ d b e. absurd (omega arith); others = λ n. w }
-  explaining_accepted (solved.Refused f) m w = record { answers = λ d b e. absurd (omega arith); others = λ n. w }
 
 -- ---- by the mode: where head cycles are taken there are no rounds
 
-pub explains_refused : (cycles : Bool) (t : List ℤ) (b : Buffer) (plan : List ℕ) (f : Refusal) (ws : List Why) → Recorded ws no_whys → ExplainingBy cycles t b plan (solved.Refused f) ws
+pub explains_refused : (cycles : Bool) (t : List ℤ) (b : Buffer) (plan : List ℕ) (f : Refusal) (ws : List Why) → Recorded ws no_whys → ExplainingBy cycles t b plan (Err f) ws
 explains_refused false t b plan f ws r = explaining_refused t b plan f ws r
 explains_refused true t b plan f ws r = r
 
 pub explains_accepted : (cycles : Bool) (t : List ℤ) (lim : ℕ) (old new : List ℕ) (c : Contents) → AcceptedBy cycles t (Plan (length old)) c → AtomsIn c.atoms (program c)
-    → (AS : Atoms → Type 0) → ((Y : Atoms) → AS Y → AnswerSet (program c) Y) → (ws : List Why) (r : Solved) → Meaning c.atoms AS lim old new r
-    → Recorded ws (whys_by cycles r (why_of (program c) c.atoms (plan_atoms c.atoms new))) → ExplainingBy cycles t (Plan (length old)) new r ws
+    → (AS : Atoms → Type 0) → ((Y : Atoms) → AS Y → AnswerSet (program c) Y) → (ws : List Why) (r : Solved) → Meaning c.atoms AS lim old new (Ok r)
+    → Recorded ws (whys_by cycles r (why_of (program c) c.atoms (plan_atoms c.atoms new))) → ExplainingBy cycles t (Plan (length old)) new (Ok r) ws
 explains_accepted false t lim old new c a A AS answers ws r m w = explaining_accepted t lim old new c a A AS answers ws r m w
 explains_accepted true t lim old new c a A AS answers ws r m w = w
 

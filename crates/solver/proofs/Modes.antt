@@ -6,15 +6,17 @@ use mathlib.Core.Path.{◌≡◌, refl, sym, ◌∙◌, ap}
 use mathlib.Core.Logic.{◌≢◌, inl, inr, ◌↔◌}
 use mathlib.Core.Bool.{true, false}
 use mathlib.Core.List.{List}
+use Rattle.std.specs.Prelude.{Bool, Result, Ok}
 use Prim.Native.Nat.{ℕ}
 use lib.IntN.{ℤ}
 use lib.ListN.{length}
 use Rattle.meaning.specs.Dependency.{HeadCycle, Free}
-use Rattle.results.specs.declared.Checked.{Checked}
 use Rattle.results.specs.declared.Counts.{Counts}
 use Rattle.results.specs.declared.Solved.{Solved}
+use Rattle.results.specs.declared.Refusal.{Refusal}
 use Rattle.results.specs.Results.{number_of, place_of, kind_of, Report, report_of, refusal_report}
-use Rattle.search.specs.Search.{Result, answer, no_answer, limit, jump}
+use Rattle.search.specs.Search as defined
+use Rattle.search.specs.Search.{answer, no_answer, limit, jump}
 use Rattle.smaller.proofs.Cyclic.{same_as_base}
 use Rattle.table.specs.Contents.{Contents, program}
 use Rattle.table.specs.Grammar.{accepted, contents_of}
@@ -29,17 +31,17 @@ use Rattle.solver.specs.Approving.{CheckRefusedBy, before, byte, ApprovingBy}
 use Rattle.solver.specs.Solving.{Solving}
 use Rattle.solver.proofs.Unique.{approving_unique}
 
-kind_by_lem : (x : Result) (k l : Counts) → kind_of (solved_by x k) ≡ kind_of (solved_by x l)
+kind_by_lem : (x : defined.Result) (k l : Counts) → kind_of (Ok (solved_by x k)) ≡ kind_of (Ok (solved_by x l))
 kind_by_lem (answer X) k l = refl
 kind_by_lem no_answer k l = refl
 kind_by_lem limit k l = refl
 
 -- a result whose kind is not 2, limit, reports no limit
-not_limit : (r : Solved) (x : Result) (k : Counts) → r ≡ solved_by x k → kind_of r ≢ 2 → x ≢ limit
-not_limit r x k e n i = n (ap kind_of e ∙ ap (λ (y : Result). kind_of (solved_by y k)) i)
+not_limit : (r : Result Solved Refusal) (x : defined.Result) (k : Counts) → r ≡ Ok (solved_by x k) → kind_of r ≢ 2 → x ≢ limit
+not_limit r x k e n i = n (ap kind_of e ∙ ap (λ (y : defined.Result). kind_of (Ok (solved_by y k))) i)
 
 -- what the two results have in common
-pub record Agree (r r' : Solved) (new new' : List ℕ) : Type 0 where
+pub record Agree (r r' : Result Solved Refusal) (new new' : List ℕ) : Type 0 where
   pub kind : kind_of r ≡ kind_of r'
   pub plan : new ≡ new'
   pub refusal : (n i : ℕ) → (report_of r ≡ refusal_report n i) ↔ (report_of r' ≡ refusal_report n i)
@@ -72,7 +74,7 @@ module _ (t : List ℤ) (no_head : (c : Contents) → contents_of t ≡ accepted
 
   -- ---- `solve`
 
-  module _ (lim more : ℕ) (old new new' : List ℕ) (r r' : Solved) (a : Solving t (record { cycles = false; limit = lim }) old new r) (b : Solving t (record { cycles = true; limit = more }) old new' r') where
+  module _ (lim more : ℕ) (old new new' : List ℕ) (r r' : Result Solved Refusal) (a : Solving t (record { cycles = false; limit = lim }) old new r) (b : Solving t (record { cycles = true; limit = more }) old new' r') where
     refusals : (n i : ℕ) → (report_of r ≡ refusal_report n i) ↔ (report_of r' ≡ refusal_report n i)
     refusals n i =
         let x = refused_alike (Plan (length old)) n i in
@@ -95,8 +97,8 @@ module _ (t : List ℤ) (no_head : (c : Contents) → contents_of t ≡ accepted
         let e = same_as_base c.atoms (program c) (accepted_atoms t c h.holds) h.no_head h.no_aggregate jump jump lim more o q x.1.jumping y.1.jumping
         (not_limit r o.result (counted o) x.1.result n) (not_limit r' q.result (counted q) y.1.result m) in
         record {
-          kind = ap kind_of x.1.result ∙ kind_by_lem o.result (counted o) (counted q) ∙ ap (λ (z : Result). kind_of (solved_by z (counted q))) (sym e) ∙ sym (ap kind_of y.1.result);
-          plan = x.1.plan ∙ ap (λ (z : Result). plan_after c.atoms z old) (sym e) ∙ sym y.1.plan;
+          kind = ap kind_of x.1.result ∙ kind_by_lem o.result (counted o) (counted q) ∙ ap (λ (z : defined.Result). kind_of (Ok (solved_by z (counted q)))) (sym e) ∙ sym (ap kind_of y.1.result);
+          plan = x.1.plan ∙ ap (λ (z : defined.Result). plan_after c.atoms z old) (sym e) ∙ sym y.1.plan;
           refusal = refusals;
         }
 
@@ -116,12 +118,12 @@ module _ (t : List ℤ) (no_head : (c : Contents) → contents_of t ≡ accepted
     check_old n i (byte c a h e) = byte c ((accepted_alike (Plan (length plan)) c).1 a) h e
 
     -- what keeps the promise of the one mode keeps that of the other
-    approving_old : (r : Checked) → ApprovingBy true t plan r → ApprovingBy false t plan r
+    approving_old : (r : Result Bool Refusal) → ApprovingBy true t plan r → ApprovingBy false t plan r
     approving_old r a = record {
       refused = λ n i. (λ h. check_old n i ((a.refused n i).0 h), λ h. (a.refused n i).1 (check_new n i h));
       yes = λ c h k. a.yes c ((accepted_alike (Plan (length plan)) c).0 h) k;
       no = λ c h k. a.no c ((accepted_alike (Plan (length plan)) c).0 h) k;
     }
 
-    pub approvals_agree : (r r' : Checked) → ApprovingBy false t plan r → ApprovingBy true t plan r' → r ≡ r'
+    pub approvals_agree : (r r' : Result Bool Refusal) → ApprovingBy false t plan r → ApprovingBy true t plan r' → r ≡ r'
     approvals_agree r r' a b = approving_unique t plan r r' a (approving_old r' b)

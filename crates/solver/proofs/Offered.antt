@@ -2,12 +2,15 @@
 use mathlib.Core.Path.{◌≡◌, refl, sym, ap, ◌∙◌, fun_ext, subst}
 use mathlib.Core.Logic.{◌⊎◌, inl, inr}
 use mathlib.Core.Bool.{Bool, true, false}
-use mathlib.Core.List.{List, []}
+use mathlib.Core.List.{List, [], ◌∷◌}
+use Rattle.std.specs.Prelude.{Option, Some, None, cond}
+use Rattle.std.specs.List.{position_from}
 use Prim.Native.Nat.{ℕ, zero, suc, ◌+◌, ◌-◌, ◌≤◌, ◌<◌}
 use native.Mathlib.Omega.{arith}
 use native.Mathlib.Numerals.{add-one}
 use lib.Dec.{eqb, ltb}
-use lib.ListN.{get_or}
+use lib.ListN.{length, get_or, take, drop}
+use lib.Seq.{drop-cons}
 use borrow.Author.Tests.{lt-ltb, le-ltb}
 use Rattle.meaning.specs.Cond.{if_lt}
 use Rattle.meaning.proofs.Cond.{if_lt_no, lt_case}
@@ -17,8 +20,6 @@ use Rattle.interpretation.proofs.Laws.{cells_suc}
 use Rattle.promises.specs.Plans.{plan_atoms}
 use Rattle.solver.specs.Approving.{Bit, is_zero, is_one, Bits, BadByte}
 use Rattle.solver.specs.Plans.{bad_or, bad_from, Offers}
-use Rattle.solver.specs.declared.plans.Offer.{Offer}
-use Rattle.solver.specs.declared.plans.Offer.TheVariants as offer
 
 -- ---- the first bad byte
 
@@ -26,11 +27,11 @@ bad_suc : (plan : List ℕ) (i k : ℕ) → bad_from plan i (suc k) ≡ bad_or (
 unfolding bad_from
 bad_suc plan i k = refl
 
-pub bad_none : (plan : List ℕ) (i : ℕ) → bad_from plan i 0 ≡ offer.Good
+pub bad_none : (plan : List ℕ) (i : ℕ) → bad_from plan i 0 ≡ None
 unfolding bad_from
 bad_none plan i = refl
 
-pub bad_here : (plan : List ℕ) (i k : ℕ) → 0 < k → 1 < get_or plan i 0 → bad_from plan i k ≡ offer.Bad i
+pub bad_here : (plan : List ℕ) (i k : ℕ) → 0 < k → 1 < get_or plan i 0 → bad_from plan i k ≡ Some i
 bad_here plan i zero h b = absurd (omega arith)
 bad_here plan i (suc k) h b = bad_suc plan i k ∙ ap (λ (x : Bool). bad_or x i (bad_from plan (suc i) k)) (lt-ltb _ _ b)
 
@@ -39,6 +40,21 @@ bad_later plan i zero h b = absurd (omega arith)
 bad_later plan i (suc k) h b =
     let e : suc k - 1 ≡ k = omega arith in
     bad_suc plan i k ∙ ap (λ (x : Bool). bad_or x i (bad_from plan (suc i) k)) (le-ltb _ _ b) ∙ sym (ap (bad_from plan (i + 1)) e ∙ ap (λ (j : ℕ). bad_from plan j k) (add-one i))
+
+-- the byte that the library's `position` finds
+bad_cond : (b : Bool) (i : ℕ) (o : Option ℕ) → bad_or b i o ≡ cond b (Some i) o
+bad_cond true i o = refl
+bad_cond false i o = refl
+
+pub bad_position : (plan : List ℕ) (k i : ℕ) → i + k ≤ length plan → bad_from plan i k ≡ position_from (λ b. ltb 1 b) i (take k (drop i plan))
+bad_position plan zero i h = bad_none plan i
+bad_position plan (suc k) i h =
+    let e : drop i plan ≡ get_or plan i 0 ∷ drop (suc i) plan = drop-cons plan i 0 (omega arith) in
+    bad_suc plan i k
+    ∙ bad_cond (ltb 1 (get_or plan i 0)) i (bad_from plan (suc i) k)
+    ∙ ap (λ (o : Option ℕ). cond (ltb 1 (get_or plan i 0)) (Some i) o) (bad_position plan k (suc i) (omega arith))
+    ∙ ap (λ (j : ℕ). cond (ltb 1 (get_or plan i 0)) (Some i) (position_from (λ b. ltb 1 b) j (take k (drop (suc i) plan)))) (sym (add-one i))
+    ∙ ap (λ (l : List ℕ). position_from (λ b. ltb 1 b) i (take (suc k) l)) (sym e)
 
 -- ---- what it says
 
@@ -52,9 +68,9 @@ bit_small b (is_zero e) h = omega arith
 bit_small b (is_one e) h = omega arith
 
 -- what is said where all bytes before i are 0 or 1
-Says : List ℕ → ℕ → Offer → Type 0
-Says plan n (offer.Bad j) = BadByte n plan j
-Says plan n offer.Good = Bits n plan
+Says : List ℕ → ℕ → Option ℕ → Type 0
+Says plan n (Some j) = BadByte n plan j
+Says plan n None = Bits n plan
 
 says_from : (plan : List ℕ) (k i : ℕ) → Bits i plan → Says plan (i + k) (bad_from plan i k)
 unfolding Says
@@ -79,20 +95,20 @@ says_from plan (suc k) i h = at (λ g. says_from plan k (suc i) g) (lt_case 1 (g
 says : (plan : List ℕ) (n : ℕ) → Says plan n (bad_from plan 0 n)
 says plan n = let e : 0 + n ≡ n = omega arith in subst (λ (k : ℕ). Says plan k (bad_from plan 0 n)) e (says_from plan n 0 (λ j l. absurd (omega arith)))
 
-pub bad_byte : (plan : List ℕ) (n j : ℕ) → bad_from plan 0 n ≡ offer.Bad j → BadByte n plan j
+pub bad_byte : (plan : List ℕ) (n j : ℕ) → bad_from plan 0 n ≡ Some j → BadByte n plan j
 unfolding Says
 bad_byte plan n j e = subst (Says plan n) e (says plan n)
 
-pub good_bits : (plan : List ℕ) (n : ℕ) → bad_from plan 0 n ≡ offer.Good → Bits n plan
+pub good_bits : (plan : List ℕ) (n : ℕ) → bad_from plan 0 n ≡ None → Bits n plan
 unfolding Says
 good_bits plan n e = subst (Says plan n) e (says plan n)
 
 pub bad_or_good : (plan : List ℕ) (n : ℕ) → ((i : ℕ) × BadByte n plan i) ⊎ Bits n plan
 bad_or_good plan n = at (bad_from plan 0 n) refl
   where
-    at : (o : Offer) → bad_from plan 0 n ≡ o → ((i : ℕ) × BadByte n plan i) ⊎ Bits n plan
-    at (offer.Bad i) e = inl (i, bad_byte plan n i e)
-    at offer.Good e = inr (good_bits plan n e)
+    at : (o : Option ℕ) → bad_from plan 0 n ≡ o → ((i : ℕ) × BadByte n plan i) ⊎ Bits n plan
+    at (Some i) e = inl (i, bad_byte plan n i e)
+    at None e = inr (good_bits plan n e)
 
 -- ---- the values of a plan
 

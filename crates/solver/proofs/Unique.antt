@@ -7,6 +7,7 @@ use mathlib.Core.Path.{◌≡◌, refl, sym, ◌∙◌, ap, subst}
 use mathlib.Core.Logic.{◌≢◌, ◌⊎◌, inl, inr}
 use mathlib.Core.Bool.{Bool, true, false}
 use mathlib.Core.List.{List}
+use Rattle.std.specs.Prelude.{Result, Ok, Err}
 use Prim.Native.Nat.{ℕ}
 use native.Mathlib.Omega.{arith}
 use lib.IntN.{ℤ}
@@ -14,7 +15,7 @@ use lib.ListN.{length}
 use Rattle.meaning.specs.Answers.{model, AnswerSet}
 use Rattle.meaning.proofs.Tools.{clash}
 use Rattle.meaning.proofs.Cond.{eq_case}
-use Rattle.results.specs.declared.Checked.{Checked}
+use Rattle.results.specs.declared.Refusal.{Refusal}
 use Rattle.results.specs.Results.{number_of, place_of, kind_of, Report}
 use Rattle.results.proofs.Determined.{report_determines, check_determines}
 use Rattle.results.specs.declared.Ask.{Ask}
@@ -39,7 +40,7 @@ use Rattle.table.proofs.Accepted.{accepted_atoms}
 use Rattle.solver.specs.Solving.{Solving}
 
 module _ (t : List ℤ) (ask : Ask) (old : List ℕ) where
-  unique_by : DecidedBy ask.cycles t (Plan (length old)) → (new new' : List ℕ) (r r' : Solved) → Solving t ask old new r → Solving t ask old new' r' → (r ≡ r') × (new ≡ new')
+  unique_by : DecidedBy ask.cycles t (Plan (length old)) → (new new' : List ℕ) (r r' : Result Solved Refusal) → Solving t ask old new r → Solving t ask old new' r' → (r ≡ r') × (new ≡ new')
   unique_by (inl (f, h)) new new' r r' a b =
       let e = (a.refused (number_of f) (place_of f)).1 h in
       let i = (b.refused (number_of f) (place_of f)).1 h in
@@ -49,18 +50,18 @@ module _ (t : List ℤ) (ask : Ask) (old : List ℕ) where
       let y = b.searching c h in
       searching_unique (AnswerSet (program c)) (base_by ask.cycles (program c) c.atoms) ask.limit old new new' r r' x.0 y.0 x.1 y.1
 
-  pub solving_unique : (new new' : List ℕ) (r r' : Solved) → Solving t ask old new r → Solving t ask old new' r' → (r ≡ r') × (new ≡ new')
+  pub solving_unique : (new new' : List ℕ) (r r' : Result Solved Refusal) → Solving t ask old new r → Solving t ask old new' r' → (r ≡ r') × (new ≡ new')
   solving_unique = unique_by (decided t (Plan (length old)))
 
 -- ---- rounds and rules
 
 -- what a refused table gives is no answer
-refused_kind : (t : List ℤ) (ask : Ask) (old new : List ℕ) (r : Solved) → Solving t ask old new r → (n i : ℕ) → RefusedBy ask.cycles t (Plan (length old)) n i → kind_of r ≢ 0
+refused_kind : (t : List ℤ) (ask : Ask) (old new : List ℕ) (r : Result Solved Refusal) → Solving t ask old new r → (n i : ℕ) → RefusedBy ask.cycles t (Plan (length old)) n i → kind_of r ≢ 0
 refused_kind t ask old new r a n i h e =
     let k : kind_of r ≡ 3 = ap (λ (x : Report). x.kind) ((a.refused n i).1 h) in
     omega arith
 
-module _ (t : List ℤ) (lim : ℕ) (old new : List ℕ) (r : Solved) (ws ws' : List Why) where
+module _ (t : List ℤ) (lim : ℕ) (old new : List ℕ) (r : Result Solved Refusal) (ws ws' : List Why) where
   -- where head cycles are taken there are none
   by_mode : (cycles : Bool) → Solving t (record { cycles = cycles; limit = lim }) old new r → ExplainingBy cycles t (Plan (length old)) new r ws → ExplainingBy cycles t (Plan (length old)) new r ws' → ws ≡ ws'
   by_mode true s a b = recorded_one ws ws' no_whys a b
@@ -71,7 +72,7 @@ module _ (t : List ℤ) (lim : ℕ) (old new : List ℕ) (r : Solved) (ws ws' : 
       at (inl (f, h)) (inl e) = absurd (refused_kind t (record { cycles = false; limit = lim }) old new r s (number_of f) (place_of f) h e)
       at (inr (c, h)) (inl e) = recorded_one ws ws' _ (a.answers c h e).defined (b.answers c h e).defined
 
-module _ (t : List ℤ) (ask : Ask) (old new : List ℕ) (r : Solved) (s : Solving t ask old new r) (ws ws' : List Why) (a : ExplainingBy ask.cycles t (Plan (length old)) new r ws)
+module _ (t : List ℤ) (ask : Ask) (old new : List ℕ) (r : Result Solved Refusal) (s : Solving t ask old new r) (ws ws' : List Why) (a : ExplainingBy ask.cycles t (Plan (length old)) new r ws)
     (b : ExplainingBy ask.cycles t (Plan (length old)) new r ws') where
   pub explaining_unique : ws ≡ ws'
   explaining_unique = by_mode t ask.limit old new r ws ws' ask.cycles s a b
@@ -85,7 +86,7 @@ module _ (t : List ℤ) (ask : Ask) (old : List ℕ) where
   pub solution_unique : (new new' : List ℕ) (r r' : Solution) → Promised new r → Promised new' r' → (r ≡ r') × (new ≡ new')
   solution_unique new new' r r' a b =
       let u = solving_unique t ask old new new' r.solved r'.solved a.0 b.0 in
-      let c = subst (λ (p : List ℕ). ExplainingBy ask.cycles t (Plan (length old)) p r.solved r'.whys) (sym u.1) (subst (λ (x : Solved). ExplainingBy ask.cycles t (Plan (length old)) new' x r'.whys) (sym u.0) b.1) in
+      let c = subst (λ (p : List ℕ). ExplainingBy ask.cycles t (Plan (length old)) p r.solved r'.whys) (sym u.1) (subst (λ (x : Result Solved Refusal). ExplainingBy ask.cycles t (Plan (length old)) new' x r'.whys) (sym u.0) b.1) in
       let w = explaining_unique t ask old new r.solved a.0 r.whys r'.whys a.1 c in
       (λ i. record { solved = u.0 i; whys = w i }, u.1)
 
@@ -96,7 +97,7 @@ module _ (t : List ℤ) (ask : Ask) (old : List ℕ) where
 -- ---- of the check
 
 module _ (t : List ℤ) (plan : List ℕ) where
-  pub approving_unique : {cycles : Bool} (r r' : Checked) → ApprovingBy cycles t plan r → ApprovingBy cycles t plan r' → r ≡ r'
+  pub approving_unique : {cycles : Bool} (r r' : Result Bool Refusal) → ApprovingBy cycles t plan r → ApprovingBy cycles t plan r' → r ≡ r'
   approving_unique {cycles} r r' a b = by_table (decided t (Plan (length plan)))
     where
       refused : (n i : ℕ) → CheckRefusedBy cycles t plan n i → r ≡ r'

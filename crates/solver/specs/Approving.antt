@@ -6,10 +6,9 @@
 --   CheckRefusedBy m    the refusals of `RefusedBy m`, and after them 11: number and place;  CheckRefused, in 01's mode
 --   ApprovingBy m       the promise in the mode m;  Approving, in 01's mode
 -- Assumes nothing.
-use Rattle.std.specs.Prelude.{◌≡◌, ◌↔◌, Bool, false, List, ℕ, ◌<◌, ℤ, length, get_or}
+use Rattle.std.specs.Prelude.{◌≡◌, ◌↔◌, Bool, true, false, List, ℕ, ◌<◌, ℤ, length, get_or, Result, Ok}
 use Rattle.meaning.specs.Answers.{AnswerSet}
-use Rattle.results.specs.declared.Checked.{Checked}
-use Rattle.results.specs.declared.Checked.TheVariants as checked
+use Rattle.results.specs.declared.Refusal.{Refusal}
 use Rattle.results.specs.Results.{check_report_of, refusal_check}
 use Rattle.table.specs.Contents.{Contents, program}
 use Rattle.judging.specs.declared.Buffer.TheVariants.{Plan}
@@ -34,17 +33,17 @@ pub data CheckRefusedBy (cycles : Bool) (t : List ℤ) (plan : List ℕ) (number
   -- 11: "check only: a byte of the first N is neither 0 nor 1", "its index"; it comes last
   byte : (c : Contents) → AcceptedBy cycles t (Plan (length plan)) c → BadByte c.atoms plan place → number ≡ 11 → CheckRefusedBy cycles t plan number place
 
-pub record ApprovingBy (cycles : Bool) (t : List ℤ) (plan : List ℕ) (r : Checked) : Type 0 where
+pub record ApprovingBy (cycles : Bool) (t : List ℤ) (plan : List ℕ) (r : Result Bool Refusal) : Type 0 where
   -- refused with number n and place i exactly where 01's table says so
   pub refused : (n i : ℕ) → (check_report_of r ≡ refusal_check n i) ↔ CheckRefusedBy cycles t plan n i
   -- yes exactly of an answer set, no exactly of what is none
-  pub yes : (c : Contents) → AcceptedBy cycles t (Plan (length plan)) c → Bits c.atoms plan → (r ≡ checked.Yes) ↔ AnswerSet (program c) (plan_atoms c.atoms plan)
-  pub no : (c : Contents) → AcceptedBy cycles t (Plan (length plan)) c → Bits c.atoms plan → (r ≡ checked.No) ↔ (AnswerSet (program c) (plan_atoms c.atoms plan) → ⊥)
+  pub yes : (c : Contents) → AcceptedBy cycles t (Plan (length plan)) c → Bits c.atoms plan → (r ≡ Ok true) ↔ AnswerSet (program c) (plan_atoms c.atoms plan)
+  pub no : (c : Contents) → AcceptedBy cycles t (Plan (length plan)) c → Bits c.atoms plan → (r ≡ Ok false) ↔ (AnswerSet (program c) (plan_atoms c.atoms plan) → ⊥)
 
 -- ---- in 01's mode
 
 abbrev pub CheckRefused : List ℤ → List ℕ → ℕ → ℕ → Type 0
 CheckRefused t plan number place = CheckRefusedBy false t plan number place
 
-abbrev pub Approving : List ℤ → List ℕ → Checked → Type 0
+abbrev pub Approving : List ℤ → List ℕ → Result Bool Refusal → Type 0
 Approving t plan r = ApprovingBy false t plan r

@@ -4,7 +4,8 @@
 --   ExplainingBy m  in the mode m: where the call takes head cycles all records are 0
 -- What a round and a rule are, and the statement wanted of each rule shown, is `Explained` of crate `rounds`.
 -- Assumes nothing.
-use Rattle.std.specs.Prelude.{◌≡◌, ◌≢◌, Bool, true, false, List, ℕ, ℤ}
+use Rattle.std.specs.Prelude.{◌≡◌, ◌≢◌, Bool, true, false, List, ℕ, ℤ, Result}
+use Rattle.results.specs.declared.Refusal.{Refusal}
 use Rattle.results.specs.declared.Solved.{Solved}
 use Rattle.results.specs.Results.{kind_of}
 use Rattle.rounds.specs.declared.Why.{Why}
@@ -15,10 +16,10 @@ use Rattle.judging.specs.Refusals.{Accepted}
 use Rattle.promises.specs.Plans.{plan_atoms}
 
 -- t: the words; b: the buffer that was lent; plan: its bytes afterwards; an answer is of kind 0
-pub record Explaining (t : List ℤ) (b : Buffer) (plan : List ℕ) (r : Solved) (ws : List Why) : Type 0 where
+pub record Explaining (t : List ℤ) (b : Buffer) (plan : List ℕ) (r : Result Solved Refusal) (ws : List Why) : Type 0 where
   pub answers : (c : Contents) → Accepted t b c → kind_of r ≡ 0 → Explained (program c) c.atoms (plan_atoms c.atoms plan) ws
   pub others : kind_of r ≢ 0 → Recorded ws no_whys
 
-abbrev pub ExplainingBy : Bool → List ℤ → Buffer → List ℕ → Solved → List Why → Type 0
+abbrev pub ExplainingBy : Bool → List ℤ → Buffer → List ℕ → Result Solved Refusal → List Why → Type 0
 ExplainingBy false t b plan r ws = Explaining t b plan r ws
 ExplainingBy true t b plan r ws = Recorded ws no_whys

@@ -6,7 +6,7 @@ ghost use Rattle.std.specs.Prelude.{◌≡◌, true, ◌≤◌, length};
 ghost use Rattle.meaning.specs.Answers.{model};
 ghost use Rattle.interpretation.specs.State.{true_atoms, AllDefined};
 ghost use Rattle.interpretation.specs.View.{view, valued};
-ghost use Rattle.layout.specs.Layout.{Laid, program_of};
+ghost use Rattle.layout.specs.Accepted.{program_in};
 ghost use Rattle.heads.specs.Heads.{Whole};
 ghost use Rattle.judging.specs.declared.Buffer.TheVariants.{Plan};
 ghost use Rattle.rounds.specs.Rounds.{why_of, Recorded};
@@ -20,18 +20,16 @@ use foundation::Candidates;
 use heads::Lists;
 use interpretation::Interpretation;
 use judging::Buffer;
-use layout::Table;
-use plans::Offer;
-use results::{Ask, Checked, Refusal, Solved};
+use layout::{Accepted, Table};
+use results::{Ask, Refusal, Solved};
 use rounds::Why;
-use table::Fault;
 
 pub mod plans;
 
 // What comes back from solving: the result, and for each atom why it is in the plan, atom p's at index p - 1.
 #[derive(Clone, Copy)]
 pub struct Solution {
-    pub solved: Solved,
+    pub solved: Result<Solved, Refusal>,
     pub whys: [Why; 256],
 }
 
@@ -49,23 +47,23 @@ pub fn solve_with(
         × ExplainingBy ask.cycles words.now (Plan (length plan.old)) plan.new result.solved result.whys }
 {
     let cycles = ask.cycles;
-    let room = plan.len();
-    let judged = judging::judge_in(words, cycles, Buffer::Plan(room), lists);
-    let fault = judged.fault;
-    match fault {
-        Fault::Refused(f) => {
-            let solved = Solved::Refused(f);
+    match judging::judge_in(words, cycles, Buffer::Plan(plan.len()), lists) {
+        Err(f) => {
             let whys = explaining::nothing();
-            Solution { solved, whys }
+            Solution {
+                solved: Err(f),
+                whys,
+            }
         }
-        Fault::Nothing => {
-            let tb = judged.table;
-            let limit = ask.limit;
-            let found = jumping::search(words, tb, cycles, lists, limit, candidates);
-            let atoms = tb.atoms;
-            let solved = plans::report(found, atoms, plan);
-            let whys = whys_by(words, tb, cycles, solved, found.it, candidates);
-            Solution { solved, whys }
+        Ok(places) => {
+            let t = Accepted { words, places };
+            let found = jumping::search(&t, cycles, lists, ask.limit, candidates);
+            let solved = plans::report(found, places.atoms, plan);
+            let whys = whys_by(&t, cycles, solved, found.it, candidates);
+            Solution {
+                solved: Ok(solved),
+                whys,
+            }
         }
     }
 }
@@ -84,49 +82,42 @@ pub fn solve(words: &[i32], ask: Ask, plan: &mut [u8]) -> Solution
 fn is_answer(solved: Solved) -> bool
     ensures { result ≡ is_answer solved }
 {
-    match solved {
-        Solved::Answer(_) => true,
-        Solved::Nothing(_) => false,
-        Solved::Limit(_) => false,
-        Solved::Refused(_) => false,
-    }
+    matches!(solved, Solved::Answer(_))
 }
 
 // Why each atom is in the answer that the search ended with: its records are filled, and read. Without an answer no atom has a round or a rule. The
 // candidates of the search are free by then, and are lent again.
 pub fn whys_for(
-    words: &[i32],
-    tb: Table,
+    t: &Accepted,
     solved: Solved,
     it: Interpretation,
     candidates: &mut Candidates,
 ) -> [Why; 256]
-    requires { Laid words.now tb × (is_answer solved ≡ true → AllDefined tb.atoms (view it).cell) }
-    ensures { Recorded result (whys_for solved (why_of (program_of words.now tb) tb.atoms (true_atoms tb.atoms (view it).cell))) }
+    requires { (is_answer solved ≡ true → AllDefined t.now.places.atoms (view it).cell) }
+    ensures { Recorded result (whys_for solved (why_of (program_in t.now) t.now.places.atoms (true_atoms t.now.places.atoms (view it).cell))) }
 {
     if !is_answer(solved) {
         return explaining::nothing();
     }
-    let answer = explaining::explain(words, tb, it, candidates);
+    let answer = explaining::explain(t, it, candidates);
     explaining::whys_of(answer)
 }
 
 // The same by the mode: where the call takes head cycles all are 0.
 pub fn whys_by(
-    words: &[i32],
-    tb: Table,
+    t: &Accepted,
     cycles: bool,
     solved: Solved,
     it: Interpretation,
     candidates: &mut Candidates,
 ) -> [Why; 256]
-    requires { Laid words.now tb × (is_answer solved ≡ true → AllDefined tb.atoms (view it).cell) }
-    ensures { Recorded result (whys_by cycles solved (why_of (program_of words.now tb) tb.atoms (true_atoms tb.atoms (view it).cell))) }
+    requires { (is_answer solved ≡ true → AllDefined t.now.places.atoms (view it).cell) }
+    ensures { Recorded result (whys_by cycles solved (why_of (program_in t.now) t.now.places.atoms (true_atoms t.now.places.atoms (view it).cell))) }
 {
     if cycles {
         return explaining::nothing();
     }
-    whys_for(words, tb, solved, it, candidates)
+    whys_for(t, solved, it, candidates)
 }
 
 // Whether an offered plan is an answer set of the table, or a refusal; with or without head cycles. It never writes to the plan. Its memory is lent, as that of
@@ -137,23 +128,16 @@ pub fn approve_with(
     plan: &[u8],
     lists: &mut Lists,
     candidates: &mut Candidates,
-) -> Checked
+) -> Result<bool, Refusal>
     ensures { ApprovingBy cycles words.now plan.now result }
 {
-    let room = plan.len();
-    let judged = judging::judge_in(words, cycles, Buffer::Plan(room), lists);
-    let fault = judged.fault;
-    match fault {
-        Fault::Refused(f) => Checked::Refused(f),
-        Fault::Nothing => {
-            let tb = judged.table;
-            check(words, tb, cycles, lists, plan, candidates)
-        }
-    }
+    let places = judging::judge_in(words, cycles, Buffer::Plan(plan.len()), lists)?;
+    let t = Accepted { words, places };
+    check(&t, cycles, lists, plan, candidates)
 }
 
 // The same with memory of its own.
-pub fn approve(words: &[i32], cycles: bool, plan: &[u8]) -> Checked
+pub fn approve(words: &[i32], cycles: bool, plan: &[u8]) -> Result<bool, Refusal>
     ensures { ApprovingBy cycles words.now plan.now result }
 {
     let mut lists = [0u16; heads::SIZE];
@@ -163,47 +147,37 @@ pub fn approve(words: &[i32], cycles: bool, plan: &[u8]) -> Checked
 
 // The test of an offered model: whether it is founded, or, where the call takes head cycles, whether it has no smaller model.
 fn passes(
-    words: &[i32],
-    tb: Table,
+    t: &Accepted,
     cycles: bool,
     lists: &Lists,
     values: &[u8; 256],
     candidates: &mut Candidates,
 ) -> bool
-    requires { Laid words.now tb × Whole words.now tb lists.now × AllDefined tb.atoms (valued values.now) }
-    ensures { result ≡ passes_by cycles (program_of words.now tb) tb.atoms (true_atoms tb.atoms (valued values.now)) }
+    requires { Whole t.now.words.now t.now.places lists.now × AllDefined t.now.places.atoms (valued values.now) }
+    ensures { result ≡ passes_by cycles (program_in t.now) t.now.places.atoms (true_atoms t.now.places.atoms (valued values.now)) }
 {
     if cycles {
         let places = heads::list(lists, 0);
-        return !second_search::has_smaller(words, tb, places, values);
+        return !second_search::has_smaller(t, places, values);
     }
-    foundation::founded_by(words, tb, values, candidates)
+    foundation::founded_by(t, values, candidates)
 }
 
 // The check of a plan offered for an accepted table: its bytes, then whether it is a model, then that test.
 fn check(
-    words: &[i32],
-    tb: Table,
+    t: &Accepted,
     cycles: bool,
     lists: &Lists,
     plan: &[u8],
     candidates: &mut Candidates,
-) -> Checked
-    requires { Laid words.now tb × Whole words.now tb lists.now × (256 ≤ length plan.now) }
-    ensures { result ≡ checked_by (bad_from plan.now 0 tb.atoms) (model (program_of words.now tb) (plan_atoms tb.atoms plan.now)) (passes_by cycles (program_of words.now tb) tb.atoms (plan_atoms tb.atoms plan.now)) }
+) -> Result<bool, Refusal>
+    requires { Whole t.now.words.now t.now.places lists.now × (256 ≤ length plan.now) }
+    ensures { result ≡ checked_by (bad_from plan.now 0 t.now.places.atoms) (model (program_in t.now) (plan_atoms t.now.places.atoms plan.now)) (passes_by cycles (program_in t.now) t.now.places.atoms (plan_atoms t.now.places.atoms plan.now)) }
 {
-    let n = tb.atoms;
-    let offer = plans::first_bad(plan, n);
-    match offer {
-        Offer::Bad(i) => Checked::Refused(Refusal::PlanByte(i)),
-        Offer::Good => {
-            let values = plans::values_of(plan, n);
-            if foundation::is_model(words, tb, &values) {
-                if passes(words, tb, cycles, lists, &values, candidates) {
-                    return Checked::Yes;
-                }
-            }
-            Checked::No
-        }
+    if let Some(i) = plans::first_bad(plan, t.places.atoms) {
+        return Err(Refusal::PlanByte(i));
     }
+    let values = plans::values_of(plan, t.places.atoms);
+    let model = foundation::is_model(t, &values);
+    Ok(model && passes(t, cycles, lists, &values, candidates))
 }

@@ -12,7 +12,7 @@ use results::{Counts, Solved};
 pub fn bit(value: u8) -> u8
     ensures { result ≡ bit_of (eqb value 1) }
 {
-    if value == 1 { 1 } else { 0 }
+    u8::from(value == 1)
 }
 
 // The first n bytes of the plan from the first n values; the others keep their contents.
@@ -20,10 +20,8 @@ pub fn write(values: [u8; 256], n: usize, plan: &mut [u8])
     requires { (n ≤ 256) × (n ≤ length plan.old) }
     ensures { plan.new ≡ plan_with n (true_atoms n (valued values)) plan.old }
 {
-    let mut i: usize = 0;
-    while i < n {
+    for i in 0..n {
         plan[i] = bit(values[i]);
-        i += 1;
     }
 }
 
@@ -37,12 +35,9 @@ pub fn report(found: Found, n: usize, plan: &mut [u8]) -> Solved
         skips: found.skips,
         passes: found.passes,
     };
-    let ending = found.ending;
-    match ending {
+    match found.ending {
         Ending::Answer => {
-            let it = found.it;
-            let values = it.values;
-            write(values, n, plan);
+            write(found.it.values, n, plan);
             Solved::Answer(counts)
         }
         Ending::Nothing => Solved::Nothing(counts),
@@ -50,25 +45,12 @@ pub fn report(found: Found, n: usize, plan: &mut [u8]) -> Solved
     }
 }
 
-// Whether each byte of an offered plan is 0 or 1, or the index of the first that is not.
-#[derive(Clone, Copy)]
-pub enum Offer {
-    Bad(usize),
-    Good,
-}
-
-pub fn first_bad(plan: &[u8], n: usize) -> Offer
+// The index of the first byte of an offered plan that is neither 0 nor 1.
+pub fn first_bad(plan: &[u8], n: usize) -> Option<usize>
     requires { n ≤ length plan.now }
     ensures { result ≡ bad_from plan.now 0 n }
 {
-    let mut i: usize = 0;
-    while i < n {
-        if 1 < plan[i] {
-            return Offer::Bad(i);
-        }
-        i += 1;
-    }
-    Offer::Good
+    plan[..n].iter().position(|byte| 1 < *byte)
 }
 
 // The values of an offered plan: true where the byte is 1, and else false.
@@ -77,10 +59,8 @@ pub fn values_of(plan: &[u8], n: usize) -> [u8; 256]
     ensures { Offers n plan.now result }
 {
     let mut values = [0u8; 256];
-    let mut i: usize = 0;
-    while i < n {
+    for i in 0..n {
         values[i] = interpretation::byte(plan[i] == 1);
-        i += 1;
     }
     values
 }

@@ -8,6 +8,7 @@ use native.Mathlib.Omega.{arith}
 use lib.Dec.{T}
 use lib.IntN.{ℤ, pos, nat_abs}
 use lib.ListN.{length, get_or, drop}
+use Rattle.std.specs.Prelude.{Some}
 use Rattle.results.specs.declared.Refusal.{Refusal}
 use Rattle.table.specs.Roles.{count, Format, word, run}
 use Rattle.table.specs.Contents.{Contents, encode}
@@ -74,7 +75,7 @@ module _ (bs : List ℕ) (ws : List ℤ) (xs : List (List ℕ)) where
         → scan (sections (nat_abs w)) m left ≡ taken vs q [] → holds (w ∷ vs) ys ≡ holds ws xs → (c : Contents) × Encodes bs ws xs c
     unfolding stored
     held w j r ys m left vs q s t u g =
-        let n = number_written (asked.Count 256) 0 bs w j r (omega arith) b s in
+        let n = number_written (Some (asked.Count 256)) 0 bs w j r (omega arith) b s in
         let k = (count_good 256 0 w n.good).1 in
         let a = names_written (nat_abs w) j r ys m left n.bytes t in
         let d = scan_written (nat_abs w) point.Aggregates (sections (nat_abs w)) (λ (c : Contents) (p : Point). p ≡ point.End) 1 m left vs q [] (sections_lead (nat_abs w) k) a.3 u in
@@ -127,7 +128,7 @@ module _ (bs : List ℕ) (ws : List ℤ) (xs : List (List ℕ)) where
       let o : nat_abs w ≡ c.atoms = ap nat_abs f.0 in
       let k = (count_good 256 0 w t.good).1 in
       let body = laid (sections (nat_abs w)) t.after in
-      let n = number_read (asked.Count 256) 0 w (names_bytes xs ++ (body ++ [])) (omega arith) t.good in
+      let n = number_read (Some (asked.Count 256)) 0 w (names_bytes xs ++ (body ++ [])) (omega arith) t.good in
       let a = names_read (0 + 2) xs (body ++ []) h.short in
       let d = scan_laid (nat_abs w) point.Aggregates (sections (nat_abs w)) (λ (c : Contents) (p : Point). p ≡ point.End) 1 a.0 t.after c g.0 [] (sections_lead (nat_abs w) k) t.on in
       let z : bs ≡ two (nat_abs w) ++ (names_bytes xs ++ (body ++ [])) =

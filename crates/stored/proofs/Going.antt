@@ -6,10 +6,12 @@ use mathlib.Core.List.{List, [], ◌∷◌, ◌++◌, append-nil}
 use mathlib.Core.Option.{none}
 use Prim.Native.Nat.{ℕ, zero, suc, ◌+◌, ◌-◌, ◌*◌, ◌≤◌, ◌<◌}
 use native.Mathlib.Omega.{arith}
+use borrow.Author.Tests.{le-ltb}
 use lib.IntN.{ℤ, pos, negsuc, neg_ℤ, nat_abs}
 use lib.ListN.{length, get_or, drop, length-drop, drop_of_length-le}
-use lib.Signed.{non_neg}
+use lib.Signed.{lt_z, non_neg}
 use lib.Seq.{drop-cons}
+use Rattle.std.specs.Prelude.{Option, Some, None}
 use Rattle.table.specs.Roles.{Role, count, fault, Format, done, word, read, run}
 use Rattle.table.specs.Contents.{Contents, encode}
 use Rattle.table.specs.Grammar.{table, accepted, contents_of}
@@ -47,13 +49,17 @@ below_size (pos n) e = absurd (clash e)
         only false = ⊥
 below_size (negsuc n) e = omega arith
 
-pub bytes_by_lem : (a : Asked) (w : ℤ) → Fits a → bytes_by a (not (non_neg w)) (nat_abs w) ≡ number_bytes (role_of a) w
-bytes_by_lem (asked.Count m) w f = refl
-bytes_by_lem (asked.Quantity h) w f = refl
-bytes_by_lem asked.Threshold w f = ap (λ (z : ℤ). number_bytes (role_of asked.Threshold) z) (signed_back w)
-bytes_by_lem (asked.Member top p) w f = refl
-bytes_by_lem (asked.Literal top p) w f = ap (λ (z : ℤ). number_bytes (role_of (asked.Literal top p)) z) (signed_back w)
-bytes_by_lem asked.Nothing w f = absurd f
+pub below_is : (w : ℤ) → lt_z w (pos 0) ≡ not (non_neg w)
+below_is (pos n) = le-ltb n 0 (omega arith)
+below_is (negsuc n) = refl
+
+pub bytes_by_lem : (a : Option Asked) (w : ℤ) → Fits a → bytes_by a (not (non_neg w)) (nat_abs w) ≡ number_bytes (role_of a) w
+bytes_by_lem (Some (asked.Count m)) w f = refl
+bytes_by_lem (Some (asked.Quantity h)) w f = refl
+bytes_by_lem (Some asked.Threshold) w f = ap (λ (z : ℤ). number_bytes (role_of (Some asked.Threshold)) z) (signed_back w)
+bytes_by_lem (Some (asked.Member top p)) w f = refl
+bytes_by_lem (Some (asked.Literal top p)) w f = ap (λ (z : ℤ). number_bytes (role_of (Some (asked.Literal top p))) z) (signed_back w)
+bytes_by_lem None w f = absurd f
 
 pub complement_minus : (n : ℕ) → 0 < n → complement (neg_ℤ (pos n)) ≡ 4294967296 - n
 complement_minus zero h = absurd (omega arith)

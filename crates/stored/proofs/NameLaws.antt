@@ -8,6 +8,7 @@ use lib.Dec.{T, leb, ltb}
 use lib.IntN.{ℤ, pos, nat_abs}
 use lib.ListN.{length, take, drop, length-append, length-take, take-append-drop}
 use lib.Seq.{take-append_seam, drop-append_seam}
+use Rattle.std.specs.Prelude.{Some}
 use borrow.Author.Tests.{le-leb, leb-true, lt-ltb}
 use Rattle.results.specs.declared.Refusal.{Refusal}
 use Rattle.table.specs.Roles.{count}
@@ -38,7 +39,7 @@ name_after_lem i bs s e = ap name_after e
 
 name_read : (i : ℕ) (x rest : List ℕ) → length x ≤ 32 → (j : ℕ) × (name_of i (two (length x) ++ (x ++ rest)) ≡ name x j rest)
 name_read i x rest h =
-    let s = number_read (asked.Count 32) i (pos (length x)) (x ++ rest) (omega arith) (count_in_lem 32 i (pos (length x)) refl h) in
+    let s = number_read (Some (asked.Count 32)) i (pos (length x)) (x ++ rest) (omega arith) (count_in_lem 32 i (pos (length x)) refl h) in
     let l = length-append x rest in (
       i + 2 + length x,
       name_after_lem i (two (length x) ++ (x ++ rest)) _ s
@@ -117,7 +118,7 @@ spelt_length i bs x j rest s = ap length s.is ∙ length-take (nat_abs s.w) s.le
 name_written : (i : ℕ) (bs x : List ℕ) (j : ℕ) (rest : List ℕ) → Bytes bs → name_of i bs ≡ name x j rest → (bs ≡ two (length x) ++ (x ++ rest)) × (length x ≤ 32) × Bytes x × Bytes rest
 name_written i bs x j rest b e =
     let s = spelt i bs x j rest e in
-    let n = number_written (asked.Count 32) i bs s.w s.q s.left (omega arith) b s.step in
+    let n = number_written (Some (asked.Count 32)) i bs s.w s.q s.left (omega arith) b s.step in
     let k = spelt_length i bs x j rest s in
     let c = (count_good 32 i s.w n.good).1 in (
       n.stands

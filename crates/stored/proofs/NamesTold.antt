@@ -8,35 +8,34 @@ use lib.Dec.{T, ltb}
 use lib.IntN.{nat_abs}
 use lib.ListN.{length, take, drop, length-drop}
 use lib.Seq.{drop-drop, length-take-le}
+use Rattle.std.specs.Prelude.{Some, Ok, Err}
 use borrow.Author.Tests.{le-leb, lt-leb}
 use Rattle.results.specs.declared.Refusal.{Refusal}
 use Rattle.results.specs.declared.Refusal.TheVariants.{Absent}
 use Rattle.table.specs.Roles.{count}
 use Rattle.stored.specs.Bytes.{stop, step_of, name_by, Name, unread, name, name_of, Names, nameless, names, name_first, names_of, named}
-use Rattle.stored.specs.Taking.{name_told, names_told}
+use Rattle.stored.specs.Taking.{Named, name_told, names_told}
 use Rattle.stored.specs.declared.points.Asked.TheVariants as asked
-use Rattle.stored.specs.declared.reading.Named.{Named}
-use Rattle.stored.specs.declared.reading.Named.TheVariants as told
 use Rattle.stored.proofs.NameLaws.{spelt, names_nil, names_on, names_stop, name_after_lem, named_cons, nameless≢names}
 use Rattle.stored.proofs.Telling.{number_stands, Said}
 
 -- ---- what it was told of a name
 
 abbrev is_names : Named → Bool
-is_names (told.Names filled j) = true
-is_names (told.Refused f) = false
+is_names (Ok (filled, j)) = true
+is_names (Err f) = false
 
 abbrev filled_in : Named → Bool
-filled_in (told.Names filled j) = filled
-filled_in (told.Refused f) = false
+filled_in (Ok (filled, j)) = filled
+filled_in (Err f) = false
 
 abbrev past_in : Named → ℕ
-past_in (told.Names filled j) = j
-past_in (told.Refused f) = 0
+past_in (Ok (filled, j)) = j
+past_in (Err f) = 0
 
 abbrev refusal_in : Refusal → Named → Refusal
-refusal_in d (told.Names filled j) = d
-refusal_in d (told.Refused f) = f
+refusal_in d (Ok (filled, j)) = d
+refusal_in d (Err f) = f
 
 -- a name that was read, in the whole of the bytes
 pub record Named-as (l : List ℕ) (i : ℕ) (filled : Bool) (j : ℕ) : Type 0 where
@@ -48,71 +47,71 @@ pub record Named-as (l : List ℕ) (i : ℕ) (filled : Bool) (j : ℕ) : Type 0 
 name_stands : (l : List ℕ) (i : ℕ) (x : List ℕ) (j : ℕ) (rest : List ℕ) → i ≤ length l → name_of i (drop i l) ≡ name x j rest → (j ≤ length l) × (rest ≡ drop j l)
 name_stands l i x j rest h e =
     let s = spelt i (drop i l) x j rest e in
-    let d = number_stands (asked.Count 32) l i s.w s.q s.left h s.step in
+    let d = number_stands (Some (asked.Count 32)) l i s.w s.q s.left h s.step in
     let r = s.room in
     let n = s.next in
     let m : length s.left ≡ length l - s.q = ap length d.after ∙ length-drop s.q l in
     let k = d.high in
     (omega arith, s.after ∙ ap (drop (nat_abs s.w)) d.after ∙ drop-drop (nat_abs s.w) s.q l ∙ ap (λ (p : ℕ). drop p l) (sym n))
 
-pub name_told_lem : (l : List ℕ) (i : ℕ) (filled : Bool) (j : ℕ) → i ≤ length l → name_told (name_of i (drop i l)) ≡ told.Names filled j → Named-as l i filled j
+pub name_told_lem : (l : List ℕ) (i : ℕ) (filled : Bool) (j : ℕ) → i ≤ length l → name_told (name_of i (drop i l)) ≡ Ok (filled, j) → Named-as l i filled j
 name_told_lem l i filled j h e = at (name_of i (drop i l)) refl e
   where
-    at : (s : Name) → name_of i (drop i l) ≡ s → name_told s ≡ told.Names filled j → Named-as l i filled j
+    at : (s : Name) → name_of i (drop i l) ≡ s → name_told s ≡ Ok (filled, j) → Named-as l i filled j
     at (unread f) k g = absurd (subst T (sym (ap is_names g)) tt)
     at (name x m rest) k g =
         let d = name_stands l i x m rest h k in
         let p : m ≡ j = ap past_in g in
         record { x = x; is = k ∙ ap (name x m) d.1 ∙ ap (λ (q : ℕ). name x q (drop q l)) p; fills = sym (ap filled_in g); high = subst (λ (q : ℕ). q ≤ length l) p d.0 }
 
-pub name_refused : (s : Name) (f : Refusal) → name_told s ≡ told.Refused f → s ≡ unread f
+pub name_refused : (s : Name) (f : Refusal) → name_told s ≡ Err f → s ≡ unread f
 name_refused (unread r) f e = ap unread (ap (refusal_in f) e)
 name_refused (name x j bs) f e = absurd (subst T (ap is_names e) tt)
 
 -- a name, by its length
 module _ (l : List ℕ) (i n : ℕ) (minus : Bool) (j : ℕ) (s : Said (step_of (count 32) i (drop i l)) n minus j) (h : i ≤ length l) where
   long : length s.rest ≡ length l - j
-  long = ap length (number_stands (asked.Count 32) l i s.w j s.rest h s.step).after ∙ length-drop j l
+  long = ap length (number_stands (Some (asked.Count 32)) l i s.w j s.rest h s.step).after ∙ length-drop j l
 
-  pub name_cut : length l - j < n → told.Refused (Absent j) ≡ name_told (name_of i (drop i l))
+  pub name_cut : length l - j < n → Err (Absent j) ≡ name_told (name_of i (drop i l))
   name_cut k =
       let m = s.size in
       let q = long in
       sym (ap name_told (name_after_lem i (drop i l) _ s.step ∙ ap (λ (b : Bool). name_by b (nat_abs s.w) j s.rest) (lt-leb (nat_abs s.w) (length s.rest) (omega arith))))
 
-  pub name_whole : n ≤ length l - j → told.Names (ltb 0 n) (j + n) ≡ name_told (name_of i (drop i l))
+  pub name_whole : n ≤ length l - j → Ok (ltb 0 n, j + n) ≡ name_told (name_of i (drop i l))
   name_whole k =
       let m = s.size in
       let q = long in
       let r : nat_abs s.w ≤ length s.rest = omega arith in
       let e : length (take (nat_abs s.w) s.rest) ≡ n = length-take-le (nat_abs s.w) s.rest r ∙ sym m in
       sym (ap name_told (name_after_lem i (drop i l) _ s.step ∙ ap (λ (b : Bool). name_by b (nat_abs s.w) j s.rest) (le-leb (nat_abs s.w) (length s.rest) r))
-      ∙ ap (λ (x : ℕ). told.Names (ltb 0 x) (j + nat_abs s.w)) e
-      ∙ ap (λ (x : ℕ). told.Names (ltb 0 n) (j + x)) (sym m))
+      ∙ ap (λ (x : ℕ). Ok (ltb 0 x, j + nat_abs s.w)) e
+      ∙ ap (λ (x : ℕ). Ok (ltb 0 n, j + x)) (sym m))
 
-pub name_stop : (l : List ℕ) (i : ℕ) (f : Refusal) → step_of (count 32) i (drop i l) ≡ stop f → told.Refused f ≡ name_told (name_of i (drop i l))
+pub name_stop : (l : List ℕ) (i : ℕ) (f : Refusal) → step_of (count 32) i (drop i l) ≡ stop f → Err f ≡ name_told (name_of i (drop i l))
 name_stop l i f e = sym (ap name_told (name_after_lem i (drop i l) (stop f) e))
 
 -- ---- names, one after another
 
 abbrev pub or_named : Bool → Named → Named
-or_named b (told.Names filled j) = told.Names (b || filled) j
-or_named b (told.Refused f) = told.Refused f
+or_named b (Ok (filled, j)) = Ok (b || filled, j)
+or_named b (Err f) = Err f
 
 pub or_none : (s : Named) → or_named false s ≡ s
-or_none (told.Names filled j) = refl
-or_none (told.Refused f) = refl
+or_none (Ok (filled, j)) = refl
+or_none (Err f) = refl
 
 or_again : (a b : Bool) (s : Named) → or_named a (or_named b s) ≡ or_named (b || a) s
-or_again true true (told.Names filled j) = refl
-or_again true false (told.Names filled j) = refl
-or_again false true (told.Names filled j) = refl
-or_again false false (told.Names filled j) = refl
-or_again a b (told.Refused f) = refl
+or_again true true (Ok (filled, j)) = refl
+or_again true false (Ok (filled, j)) = refl
+or_again false true (Ok (filled, j)) = refl
+or_again false false (Ok (filled, j)) = refl
+or_again a b (Err f) = refl
 
 first_told : (x : List ℕ) (s : Names) → names_told (name_first x s) ≡ or_named (ltb 0 (length x)) (names_told s)
 first_told x (nameless f) = refl
-first_told x (names xs j bs) = ap (λ (b : Bool). told.Names b j) (named_cons x xs)
+first_told x (names xs j bs) = ap (λ (b : Bool). Ok (b, j)) (named_cons x xs)
 
 -- what is told of all names is told of those left, and of those passed
 abbrev pub Naming : List ℕ → ℕ → ℕ → Bool → ℕ → ℕ → Type 0
@@ -129,18 +128,18 @@ module _ (l : List ℕ) (n i : ℕ) (any : Bool) (left to : ℕ) (h : Naming l n
       ∙ ap (λ (b : Bool). or_named any (or_named b (names_told (names_of (left - 1) j (drop j l))))) (sym d.fills)
       ∙ or_again any filled (names_told (names_of (left - 1) j (drop j l)))
 
-  pub naming_stop : 0 < left → (f : Refusal) → name_of to (drop to l) ≡ unread f → told.Refused f ≡ names_told (names_of n i (drop i l))
+  pub naming_stop : 0 < left → (f : Refusal) → name_of to (drop to l) ≡ unread f → Err f ≡ names_told (names_of n i (drop i l))
   naming_stop k f e =
       let m : left ≡ suc (left - 1) = omega arith in
       sym (h ∙ ap (λ (q : ℕ). or_named any (names_told (names_of q to (drop to l)))) m ∙ ap (λ (s : Names). or_named any (names_told s)) (names_stop (left - 1) to (drop to l) f e))
 
-  pub naming_done : left ≤ 0 → told.Names any to ≡ names_told (names_of n i (drop i l))
+  pub naming_done : left ≤ 0 → Ok (any, to) ≡ names_told (names_of n i (drop i l))
   naming_done k =
       let m : left ≡ 0 = omega arith in
       sym (h
       ∙ ap (λ (q : ℕ). or_named any (names_told (names_of q to (drop to l)))) m
       ∙ ap (λ (s : Names). or_named any (names_told s)) (names_nil to (drop to l))
-      ∙ ap (λ (b : Bool). told.Names b to) (or-false any))
+      ∙ ap (λ (b : Bool). Ok (b, to)) (or-false any))
 
 -- ---- all names
 
@@ -181,16 +180,16 @@ pub record All (l : List ℕ) (n i : ℕ) (filled : Bool) (j : ℕ) : Type 0 whe
   pub fills : filled ≡ named xs
   pub high : j ≤ length l
 
-pub names_told_lem : (l : List ℕ) (n i : ℕ) (filled : Bool) (j : ℕ) → i ≤ length l → names_told (names_of n i (drop i l)) ≡ told.Names filled j → All l n i filled j
+pub names_told_lem : (l : List ℕ) (n i : ℕ) (filled : Bool) (j : ℕ) → i ≤ length l → names_told (names_of n i (drop i l)) ≡ Ok (filled, j) → All l n i filled j
 names_told_lem l n i filled j h e = at (names_of n i (drop i l)) refl e
   where
-    at : (s : Names) → names_of n i (drop i l) ≡ s → names_told s ≡ told.Names filled j → All l n i filled j
+    at : (s : Names) → names_of n i (drop i l) ≡ s → names_told s ≡ Ok (filled, j) → All l n i filled j
     at (nameless f) k g = absurd (subst T (sym (ap is_names g)) tt)
     at (names xs m rest) k g =
         let d = names_stand n l i xs m rest h k in
         let p : m ≡ j = ap past_in g in
         record { xs = xs; are = k ∙ ap (names xs m) d.1 ∙ ap (λ (q : ℕ). names xs q (drop q l)) p; fills = sym (ap filled_in g); high = subst (λ (q : ℕ). q ≤ length l) p d.0 }
 
-pub names_refused : (s : Names) (f : Refusal) → names_told s ≡ told.Refused f → s ≡ nameless f
+pub names_refused : (s : Names) (f : Refusal) → names_told s ≡ Err f → s ≡ nameless f
 names_refused (nameless r) f e = ap nameless (ap (refusal_in f) e)
 names_refused (names xs j bs) f e = absurd (subst T (ap is_names e) tt)

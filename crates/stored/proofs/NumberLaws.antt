@@ -8,6 +8,8 @@ use native.Mathlib.Omega.{arith}
 use lib.Dec.{T, ltb}
 use lib.IntN.{ℤ, pos, negsuc, nat_abs}
 use lib.Signed.{le_z, non_neg}
+use Rattle.std.specs.Prelude as Prelude
+use Rattle.std.specs.Prelude.{Some, None}
 use borrow.Author.Tests.{leb-true}
 use Rattle.results.specs.declared.Refusal.{Refusal}
 use Rattle.results.specs.declared.Refusal.TheVariants as refusal
@@ -79,13 +81,13 @@ gone role i width value (whole n bs) w j rest e = at (fault role i (value n)) re
 
 -- ---- a number that is laid
 
-abbrev pub width_of : Asked → ℕ
-width_of (asked.Count m) = 2
-width_of (asked.Quantity h) = 2
-width_of asked.Threshold = 4
-width_of (asked.Member top p) = 2
-width_of (asked.Literal top p) = 2
-width_of asked.Nothing = 2
+abbrev pub width_of : Prelude.Option Asked → ℕ
+width_of (Some (asked.Count m)) = 2
+width_of (Some (asked.Quantity h)) = 2
+width_of (Some asked.Threshold) = 4
+width_of (Some (asked.Member top p)) = 2
+width_of (Some (asked.Literal top p)) = 2
+width_of None = 2
 
 threshold_size : (w : ℤ) → within (negsuc 0) (pos 4194304) w ≡ true → nat_abs w ≤ 4194304
 threshold_size (pos n) h = leb-true n 4194304 (and_right (le_z (negsuc 0) (pos n)) (le_z (pos n) (pos 4194304)) h)
@@ -100,60 +102,60 @@ twice_size (pos n) m h k = omega arith
 twice_size (negsuc n) m h k = omega arith
 
 -- its size
-pub fits_size : (a : Asked) (i : ℕ) (w : ℤ) → Fits a → fault (role_of a) i w ≡ none → nat_abs w ≤ 4194304
-fits_size (asked.Count m) i w f e = let h = (count_good m i w e).1 in omega arith
-fits_size (asked.Quantity m) i w f e = let h = (within_number w m (quantity_good (pos 0) (pos m) i w e)).1 in omega arith
-fits_size asked.Threshold i w f e = threshold_size w (quantity_good (negsuc 0) (pos 4194304) i w e)
-fits_size (asked.Member top p) i w f e = let h = (member_good false top p i w e).most in omega arith
-fits_size (asked.Literal top p) i w f e = let h = (member_good true top p i w e).most in omega arith
-fits_size asked.Nothing i w f e = absurd f
+pub fits_size : (a : Prelude.Option Asked) (i : ℕ) (w : ℤ) → Fits a → fault (role_of a) i w ≡ none → nat_abs w ≤ 4194304
+fits_size (Some (asked.Count m)) i w f e = let h = (count_good m i w e).1 in omega arith
+fits_size (Some (asked.Quantity m)) i w f e = let h = (within_number w m (quantity_good (pos 0) (pos m) i w e)).1 in omega arith
+fits_size (Some asked.Threshold) i w f e = threshold_size w (quantity_good (negsuc 0) (pos 4194304) i w e)
+fits_size (Some (asked.Member top p)) i w f e = let h = (member_good false top p i w e).most in omega arith
+fits_size (Some (asked.Literal top p)) i w f e = let h = (member_good true top p i w e).most in omega arith
+fits_size None i w f e = absurd f
 
 plain_sign : (w : ℤ) → (non_neg w || false) ≡ true → pos (nat_abs w) ≡ w
 plain_sign (pos n) e = refl
 plain_sign (negsuc n) e = absurd (subst T (sym e) tt)
 
-pub number_read : (a : Asked) (i : ℕ) (w : ℤ) (rest : List ℕ) → Fits a → fault (role_of a) i w ≡ none → step_of (role_of a) i (number_bytes (role_of a) w ++ rest) ≡ go w (i + width_of a) rest
-number_read (asked.Count m) i w rest f e =
+pub number_read : (a : Prelude.Option Asked) (i : ℕ) (w : ℤ) (rest : List ℕ) → Fits a → fault (role_of a) i w ≡ none → step_of (role_of a) i (number_bytes (role_of a) w ++ rest) ≡ go w (i + width_of a) rest
+number_read (Some (asked.Count m)) i w rest f e =
     let g = count_good m i w e in
     finish (count m) i 2 pos _ (nat_abs w) rest none _ (count_form m i _) (two_read (nat_abs w) rest (let h = g.1 in omega arith)) (ap (fault (count m) i) g.0 ∙ e) ∙ ap (λ (v : ℤ). go v (i + 2) rest) g.0
-number_read (asked.Quantity m) i w rest f e =
+number_read (Some (asked.Quantity m)) i w rest f e =
     let g = within_number w m (quantity_good (pos 0) (pos m) i w e) in
     finish (quantity (pos 0) (pos m)) i 2 pos _ (nat_abs w) rest none _ (quantity_form m i _) (two_read (nat_abs w) rest (let h = g.1 in omega arith)) (ap (fault (quantity (pos 0) (pos m)) i) g.0 ∙ e)
     ∙ ap (λ (v : ℤ). go v (i + 2) rest) g.0
-number_read asked.Threshold i w rest f e =
+number_read (Some asked.Threshold) i w rest f e =
     let k = threshold_size w (quantity_good (negsuc 0) (pos 4194304) i w e) in
     let g = complement_back w (complement_size w k) k in
     finish (quantity (negsuc 0) (pos 4194304)) i 4 from_complement _ (complement w) rest none _ (threshold_form i _) (four_read (complement w) rest (complement_size w k)) (ap (fault (quantity (negsuc 0) (pos 4194304)) i) g ∙ e)
     ∙ ap (λ (v : ℤ). go v (i + 4) rest) g
-number_read (asked.Member top p) i w rest f e =
+number_read (Some (asked.Member top p)) i w rest f e =
     let m = member_good false top p i w e in
     let g = plain_sign w m.sign in
     finish (member false top p) i 2 pos _ (nat_abs w) rest none _ (member_form top p i _) (two_read (nat_abs w) rest (let h = m.most in omega arith)) (ap (fault (member false top p) i) g ∙ e)
     ∙ ap (λ (v : ℤ). go v (i + 2) rest) g
-number_read (asked.Literal top p) i w rest f e =
+number_read (Some (asked.Literal top p)) i w rest f e =
     let m = member_good true top p i w e in
     finish (member true top p) i 2 from_twice _ (twice w) rest none _ (literal_form top p i _) (two_read (twice w) rest (twice_size w top m.most f)) (ap (fault (member true top p) i) (twice_back w) ∙ e)
     ∙ ap (λ (v : ℤ). go v (i + 2) rest) (twice_back w)
-number_read asked.Nothing i w rest f e = absurd f
+number_read None i w rest f e = absurd f
 
 -- ---- a number that was read
 
-pub record Read (a : Asked) (i : ℕ) (bs : List ℕ) (w : ℤ) (j : ℕ) (rest : List ℕ) : Type 0 where
+pub record Read (a : Prelude.Option Asked) (i : ℕ) (bs : List ℕ) (w : ℤ) (j : ℕ) (rest : List ℕ) : Type 0 where
   pub good : fault (role_of a) i w ≡ none
   pub next : j ≡ i + width_of a
   pub stands : bs ≡ number_bytes (role_of a) w ++ rest
   pub bytes : Bytes rest
 
-pub number_written : (a : Asked) (i : ℕ) (bs : List ℕ) (w : ℤ) (j : ℕ) (rest : List ℕ) → Fits a → Bytes bs → step_of (role_of a) i bs ≡ go w j rest → Read a i bs w j rest
-number_written (asked.Count m) i bs w j rest f b e =
+pub number_written : (a : Prelude.Option Asked) (i : ℕ) (bs : List ℕ) (w : ℤ) (j : ℕ) (rest : List ℕ) → Fits a → Bytes bs → step_of (role_of a) i bs ≡ go w j rest → Read a i bs w j rest
+number_written (Some (asked.Count m)) i bs w j rest f b e =
     let g = gone (count m) i 2 pos (two_of bs) w j rest (sym (count_form m i bs) ∙ e) in
     let v = two_written bs g.n rest b g.there in
     record { good = g.good; next = g.next; stands = v.0 ∙ ap (λ (x : ℤ). two (nat_abs x) ++ rest) g.word; bytes = v.2 }
-number_written (asked.Quantity m) i bs w j rest f b e =
+number_written (Some (asked.Quantity m)) i bs w j rest f b e =
     let g = gone (quantity (pos 0) (pos m)) i 2 pos (two_of bs) w j rest (sym (quantity_form m i bs) ∙ e) in
     let v = two_written bs g.n rest b g.there in
     record { good = g.good; next = g.next; stands = v.0 ∙ ap (λ (x : ℤ). two (nat_abs x) ++ rest) g.word; bytes = v.2 }
-number_written asked.Threshold i bs w j rest f b e =
+number_written (Some asked.Threshold) i bs w j rest f b e =
     let g = gone (quantity (negsuc 0) (pos 4194304)) i 4 from_complement (four_of bs) w j rest (sym (threshold_form i bs) ∙ e) in
     let v = four_written_lem bs g.n rest b g.there in
     record {
@@ -162,11 +164,11 @@ number_written asked.Threshold i bs w j rest f b e =
       stands = v.0 ∙ ap (λ (m : ℕ). four m ++ rest) (sym (complement_again g.n v.1)) ∙ ap (λ (x : ℤ). four (complement x) ++ rest) g.word;
       bytes = v.2;
     }
-number_written (asked.Member top p) i bs w j rest f b e =
+number_written (Some (asked.Member top p)) i bs w j rest f b e =
     let g = gone (member false top p) i 2 pos (two_of bs) w j rest (sym (member_form top p i bs) ∙ e) in
     let v = two_written bs g.n rest b g.there in
     record { good = g.good; next = g.next; stands = v.0 ∙ ap (λ (x : ℤ). two (nat_abs x) ++ rest) g.word; bytes = v.2 }
-number_written (asked.Literal top p) i bs w j rest f b e =
+number_written (Some (asked.Literal top p)) i bs w j rest f b e =
     let g = gone (member true top p) i 2 from_twice (two_of bs) w j rest (sym (literal_form top p i bs) ∙ e) in
     let v = two_written bs g.n rest b g.there in
     let s : nat_abs w ≡ g.n / 2 = ap nat_abs (sym g.word) ∙ from_twice_size g.n in
@@ -177,4 +179,4 @@ number_written (asked.Literal top p) i bs w j rest f b e =
       stands = v.0 ∙ ap (λ (m : ℕ). two m ++ rest) (sym (twice_again g.n (omega arith))) ∙ ap (λ (x : ℤ). two (twice x) ++ rest) g.word;
       bytes = v.2;
     }
-number_written asked.Nothing i bs w j rest f b e = absurd f
+number_written None i bs w j rest f b e = absurd f

@@ -1,6 +1,5 @@
 -- The promise of `restore`, refused and accepted; that bytes have one judgement only. Assumes nothing.
 use mathlib.Core.Path.{◌≡◌, refl, sym, ap, ◌∙◌, subst}
-use mathlib.Core.Logic.{◌⊎◌, inl, inr}
 use mathlib.Core.Bool.{Bool, true, false}
 use mathlib.Core.List.{List, ◌++◌}
 use Prim.Native.Nat.{ℕ, ◌+◌, ◌≤◌, ◌<◌}
@@ -9,19 +8,16 @@ use lib.Dec.{T}
 use lib.IntN.{ℤ}
 use lib.ListN.{length, take, drop}
 use lib.Seq.{sets, sets-eq, length-sets, take-append_seam}
+use Rattle.std.specs.Prelude.{Result, Ok, Err}
 use Rattle.meaning.proofs.Tools.{clash}
 use Rattle.results.specs.Results.{number_of, place_of}
 use Rattle.results.specs.declared.Refusal.{Refusal}
 use Rattle.results.specs.declared.Refusal.TheVariants.{NamesLost, TooManyWords}
-use Rattle.results.specs.declared.Written.{Written}
-use Rattle.results.specs.declared.Written.TheVariants as result
 use Rattle.results.proofs.Determined.{refusal_determined}
 use Rattle.table.specs.Contents.{Contents}
 use Rattle.table.proofs.Theorem.{encoding_accepted}
-use Rattle.table.specs.declared.Fault.{Fault}
-use Rattle.table.specs.declared.Fault.TheVariants as fault
 use Rattle.judging.specs.declared.Buffer.TheVariants.{Nothing}
-use Rattle.table.specs.declared.Reading as read
+use Rattle.layout.specs.declared.Table.{Table}
 use Rattle.judging.specs.Refusals.{Accepted, Refused}
 use Rattle.judging.specs.Refusals as judged
 use Rattle.judging.specs.Judging.{Judged}
@@ -30,9 +26,7 @@ use Rattle.judging.proofs.Refusals.{refused_not_accepted, refused_unique, same_c
 use Rattle.stored.specs.Bytes.{Bytes, named, stored, Reading, refused_for, holds, read_bytes}
 use Rattle.stored.specs.Promises.{plainly}
 use Rattle.stored.specs.Restoring.{RestoreRefused, room, bytes, words, names, Restores}
-use Rattle.stored.specs.Taking.{Takes, names_fault, earlier_of}
-use Rattle.stored.specs.declared.reading.Taken.{Taken}
-use Rattle.stored.specs.declared.reading.Taken.TheVariants as took
+use Rattle.stored.specs.Taking.{Taken, Takes}
 use Rattle.stored.proofs.Exact.{exact, held_encodes, refused≢holds, same_words, same_names}
 use Rattle.stored.proofs.NameLaws.{unnamed_empty}
 use Rattle.stored.proofs.Storing.{wrote≢refused, same_refusal, same_length}
@@ -82,12 +76,12 @@ unnamed_back bs ws xs c b e a p =
     let z : c ≡ d = same_contents a.holds (encoding_accepted ws d (record { short = a.words; words = h.1.words; range = h.1.range })) in
     ap plainly z ∙ sym (h.1.stands ∙ ap (stored d) (unnamed_empty xs d.atoms h.1.all p))
 
-module _ (bs : List ℕ) (old new : List ℤ) (r : Written) (b : Bytes bs) where
-  pub restores_refused : (g : Refusal) → RestoreRefused bs (length old) (number_of g) (place_of g) → r ≡ result.Refused g → new ≡ old → Restores bs old new r
+module _ (bs : List ℕ) (old new : List ℤ) (r : Result ℕ Refusal) (b : Bytes bs) where
+  pub restores_refused : (g : Refusal) → RestoreRefused bs (length old) (number_of g) (place_of g) → r ≡ Err g → new ≡ old → Restores bs old new r
   restores_refused g h e u = record {
     refused = λ f. (
       λ k. subst (λ (x : Refusal). RestoreRefused bs (length old) (number_of x) (place_of x)) (same_refusal r g f e k) h,
-      λ w. let q = one_refusal bs (length old) (number_of g) (place_of g) (number_of f) (place_of f) h w in e ∙ ap result.Refused (refusal_determined g f q.0 q.1),
+      λ w. let q = one_refusal bs (length old) (number_of g) (place_of g) (number_of f) (place_of f) h w in e ∙ ap Err (refusal_determined g f q.0 q.1),
     );
     untouched = λ f k. u;
     wrote = λ ws xs c k q a p. absurd (not_both bs (length old) (number_of g) (place_of g) h k ws xs c q a p);
@@ -96,11 +90,11 @@ module _ (bs : List ℕ) (old new : List ℤ) (r : Written) (b : Bytes bs) where
   }
 
   pub restores_whole : (ws : List ℤ) (xs : List (List ℕ)) (c : Contents) → 16384 ≤ length old → read_bytes bs ≡ holds ws xs → Accepted ws Nothing c → named xs ≡ false
-      → r ≡ result.Wrote (length ws) → new ≡ sets old 0 ws → Restores bs old new r
+      → r ≡ Ok (length ws) → new ≡ sets old 0 ws → Restores bs old new r
   restores_whole ws xs c k q a p e u = record {
     refused = λ f. (λ z. wrote≢refused r (length ws) f e z, λ w. absurd (not_both bs (length old) (number_of f) (place_of f) w k ws xs c q a p));
     untouched = λ f z. wrote≢refused r (length ws) f e z;
-    wrote = λ vs ys d m o g s. subst (λ (l : List ℤ). (r ≡ result.Wrote (length l)) × (new ≡ l ++ drop (length l) old)) (same_words (sym q ∙ o)) (e, whole);
+    wrote = λ vs ys d m o g s. subst (λ (l : List ℤ). (r ≡ Ok (length l)) × (new ≡ l ++ drop (length l) old)) (same_words (sym q ∙ o)) (e, whole);
     back = λ n z. (c, subst (λ (l : List ℤ). Accepted l Nothing c) (sym (front n z)) a, unnamed_back bs ws xs c b q a p);
     exact = λ vs ys. exact bs vs ys b;
   }
@@ -111,26 +105,26 @@ module _ (bs : List ℕ) (old new : List ℤ) (r : Written) (b : Bytes bs) where
           let z : 0 + length ws ≡ length ws = omega arith in
           u ∙ sets-eq ws old 0 (omega arith) ∙ ap (λ (x : ℕ). ws ++ drop x old) z
 
-      front : (n : ℕ) → r ≡ result.Wrote n → take n new ≡ ws
+      front : (n : ℕ) → r ≡ Ok n → take n new ≡ ws
       front n z = ap (λ (m : ℕ). take m new) (sym (same_length r (length ws) n e z)) ∙ ap (take (length ws)) whole ∙ take-append_seam ws (drop (length ws) old)
 
 -- ---- what was taken from the bytes
 
 abbrev is_words : Taken → Bool
-is_words (took.Words n filled) = true
-is_words (took.Refused f) = false
+is_words (Ok (n, filled)) = true
+is_words (Err f) = false
 
 abbrev count_in : Taken → ℕ
-count_in (took.Words n filled) = n
-count_in (took.Refused f) = 0
+count_in (Ok (n, filled)) = n
+count_in (Err f) = 0
 
 abbrev filled_in : Taken → Bool
-filled_in (took.Words n filled) = filled
-filled_in (took.Refused f) = false
+filled_in (Ok (n, filled)) = filled
+filled_in (Err f) = false
 
 abbrev fault_in : Refusal → Taken → Refusal
-fault_in d (took.Words n filled) = d
-fault_in d (took.Refused f) = f
+fault_in d (Ok (n, filled)) = d
+fault_in d (Err f) = f
 
 pub record Took (bs : List ℕ) (n : ℕ) (filled : Bool) (old new : List ℤ) : Type 0 where
   pub ws : List ℤ
@@ -140,16 +134,16 @@ pub record Took (bs : List ℕ) (n : ℕ) (filled : Bool) (old new : List ℤ) :
   pub fills : filled ≡ named xs
   pub held : new ≡ sets old 0 ws
 
-pub took_words : (bs : List ℕ) (old new : List ℤ) (n : ℕ) (filled : Bool) (r : Taken) → Takes (read_bytes bs) old new r → r ≡ took.Words n filled → Took bs n filled old new
+pub took_words : (bs : List ℕ) (old new : List ℤ) (n : ℕ) (filled : Bool) (r : Taken) → Takes (read_bytes bs) old new r → r ≡ Ok (n, filled) → Took bs n filled old new
 took_words bs old new n filled r h e = at (read_bytes bs) refl h
   where
     at : (s : Reading) → read_bytes bs ≡ s → Takes s old new r → Took bs n filled old new
     at (refused_for f) q k = absurd (subst T (sym (ap is_words (sym k ∙ e))) tt)
     at (holds ws xs) q k =
-        let z : took.Words n filled ≡ took.Words (length ws) (named xs) = sym e ∙ k.0 in
+        let z : Ok (n, filled) ≡ Ok (length ws, named xs) = sym e ∙ k.0 in
         record { ws = ws; xs = xs; reads = q; counts = ap count_in z; fills = ap filled_in z; held = k.1 }
 
-pub took_refused : (bs : List ℕ) (old new : List ℤ) (f : Refusal) (r : Taken) → Takes (read_bytes bs) old new r → r ≡ took.Refused f → read_bytes bs ≡ refused_for f
+pub took_refused : (bs : List ℕ) (old new : List ℤ) (f : Refusal) (r : Taken) → Takes (read_bytes bs) old new r → r ≡ Err f → read_bytes bs ≡ refused_for f
 took_refused bs old new f r h e = at (read_bytes bs) refl h
   where
     at : (s : Reading) → read_bytes bs ≡ s → Takes s old new r → read_bytes bs ≡ refused_for f
@@ -159,26 +153,6 @@ took_refused bs old new f r h e = at (read_bytes bs) refl h
 -- the same bytes, taken again
 pub took_again : (bs : List ℕ) (old new : List ℤ) (r : Taken) (ws : List ℤ) (xs : List (List ℕ)) → read_bytes bs ≡ holds ws xs → Takes (read_bytes bs) old new r → new ≡ sets old 0 ws
 took_again bs old new r ws xs q h = (subst (λ (s : Reading). Takes s old new r) q h).1
-
--- ---- the first of two faults
-
-abbrev is_fault : Fault → Bool
-is_fault (fault.Refused f) = true
-is_fault fault.Nothing = false
-
-abbrev which_in : Refusal → Fault → Refusal
-which_in d (fault.Refused f) = f
-which_in d fault.Nothing = d
-
-pub earlier_refused : (x : Fault) (filled : Bool) (f : Refusal) → earlier_of x (names_fault filled) ≡ fault.Refused f → (x ≡ fault.Refused f) ⊎ ((x ≡ fault.Nothing) × (filled ≡ true) × (f ≡ NamesLost))
-earlier_refused (fault.Refused g) filled f e = inl e
-earlier_refused fault.Nothing true f e = inr (refl, refl, sym (ap (which_in f) e))
-earlier_refused fault.Nothing false f e = absurd (subst T (sym (ap is_fault e)) tt)
-
-pub earlier_none : (x : Fault) (filled : Bool) → earlier_of x (names_fault filled) ≡ fault.Nothing → (x ≡ fault.Nothing) × (filled ≡ false)
-earlier_none (fault.Refused g) filled e = absurd (subst T (ap is_fault e) tt)
-earlier_none fault.Nothing true e = absurd (subst T (ap is_fault e) tt)
-earlier_none fault.Nothing false e = (refl, refl)
 
 -- ---- the words where they are judged
 
@@ -192,24 +166,23 @@ module _ (bs : List ℕ) (n : ℕ) (filled : Bool) (memory after : List ℤ) (t 
       ap (λ (m : ℕ). take m after) e ∙ ap (take (length t.ws)) (t.held ∙ sets-eq t.ws memory 0 (omega arith)) ∙ take-append_seam t.ws (drop (0 + length t.ws) memory)
 
   module _ (old : List ℤ) (b : Bytes bs) (wide : 16384 ≤ length old) where
-    pub restores_many : 16384 < n → Restores bs old old (result.Refused TooManyWords)
+    pub restores_many : 16384 < n → Restores bs old old (Err TooManyWords)
     restores_many h =
         let e = t.counts in
-        restores_refused bs old old (result.Refused TooManyWords) b TooManyWords (words wide t.ws t.xs t.reads (judged.words (omega arith) refl refl)) refl refl
+        restores_refused bs old old (Err TooManyWords) b TooManyWords (words wide t.ws t.xs t.reads (judged.words (omega arith) refl refl)) refl refl
 
-    module _ (x : read.Reading) (j : Judged t.ws Nothing x) where
-      -- 8 or 9 of the words, and only then 24
-      pub restores_faulty : (f : Refusal) → earlier_of x.fault (names_fault filled) ≡ fault.Refused f → Restores bs old old (result.Refused f)
-      restores_faulty f e = at (earlier_refused x.fault filled f e)
-        where
-          at : (x.fault ≡ fault.Refused f) ⊎ ((x.fault ≡ fault.Nothing) × (filled ≡ true) × (f ≡ NamesLost)) → Restores bs old old (result.Refused f)
-          at (inl k) = restores_refused bs old old (result.Refused f) b f (words wide t.ws t.xs t.reads (judged_refused t.ws Nothing x f j k)) refl refl
-          at (inr (k, y, z)) =
-              let a = judged_taken t.ws Nothing x j k in
-              restores_refused bs old old (result.Refused f) b f (names wide t.ws t.xs a.0 t.reads a.1 (sym t.fills ∙ y) (ap number_of z) (ap place_of z)) refl refl
+    module _ (x : Result Table Refusal) (j : Judged t.ws Nothing x) where
+      -- 8 or 9 of the words
+      pub restores_judged : (f : Refusal) → x ≡ Err f → Restores bs old old (Err f)
+      restores_judged f k = restores_refused bs old old (Err f) b f (words wide t.ws t.xs t.reads (judged_refused t.ws Nothing x f j k)) refl refl
 
-      pub restores_good : earlier_of x.fault (names_fault filled) ≡ fault.Nothing → (new : List ℤ) (r : Taken) → Takes (read_bytes bs) old new r → Restores bs old new (result.Wrote n)
-      restores_good e new r h =
-          let k = earlier_none x.fault filled e in
-          let a = judged_taken t.ws Nothing x j k.0 in
-          restores_whole bs old new (result.Wrote n) b t.ws t.xs a.0 wide t.reads a.1 (sym t.fills ∙ k.1) (ap result.Wrote t.counts) (took_again bs old new r t.ws t.xs t.reads h)
+      -- and only then 24
+      pub restores_named : (tb : Table) → x ≡ Ok tb → filled ≡ true → Restores bs old old (Err NamesLost)
+      restores_named tb k y =
+          let a = judged_taken t.ws Nothing x tb j k in
+          restores_refused bs old old (Err NamesLost) b NamesLost (names wide t.ws t.xs a.0 t.reads a.1 (sym t.fills ∙ y) refl refl) refl refl
+
+      pub restores_good : (tb : Table) → x ≡ Ok tb → filled ≡ false → (new : List ℤ) (r : Taken) → Takes (read_bytes bs) old new r → Restores bs old new (Ok n)
+      restores_good tb k y new r h =
+          let a = judged_taken t.ws Nothing x tb j k in
+          restores_whole bs old new (Ok n) b t.ws t.xs a.0 wide t.reads a.1 (sym t.fills ∙ y) (ap Ok t.counts) (took_again bs old new r t.ws t.xs t.reads h)

@@ -10,20 +10,19 @@ use lib.Dec.{T}
 use lib.IntN.{ℤ, pos, nat_abs}
 use lib.ListN.{length, drop, set, length-append, length-drop}
 use lib.Seq.{sets, length-sets}
+use Rattle.std.specs.Prelude.{Option, Some, None, Ok, Err, is_none}
 use Rattle.meaning.proofs.Cond.{if_lt_yes, if_lt_no}
 use Rattle.results.specs.declared.Refusal.{Refusal}
 use Rattle.results.specs.declared.Refusal.TheVariants.{Trailing}
 use Rattle.table.specs.Roles.{Role, count, fault, Format, done, word}
 use Rattle.table.specs.Contents.{Contents}
 use Rattle.stored.specs.Bytes.{sections, named, step_of, stop, go, Scan, refused, taken, after, scan, Names, nameless, names, names_of, ended, sections_after, read_bytes}
-use Rattle.stored.specs.Machine.{asked_at, nothing_asked, role_of, Fits, point_after, Leads, signed}
-use Rattle.stored.specs.Taking.{ended_at, TakesScan, TakesAfter, Takes}
+use Rattle.stored.specs.Machine.{asked_at, role_of, Fits, point_after, Leads, signed}
+use Rattle.stored.specs.Taking.{Taken, ended_at, TakesScan, TakesAfter, Takes}
 use Rattle.stored.specs.declared.points.Asked.{Asked}
 use Rattle.stored.specs.declared.points.Asked.TheVariants as asked
 use Rattle.stored.specs.declared.points.Point.{Point}
 use Rattle.stored.specs.declared.points.Point.TheVariants as point
-use Rattle.stored.specs.declared.reading.Taken.{Taken}
-use Rattle.stored.specs.declared.reading.Taken.TheVariants as took
 use Rattle.table.proofs.Faults.{count_good}
 use Rattle.stored.proofs.NumberLaws.{any_place, fits_size}
 use Rattle.stored.proofs.Laying.{scan_on, scan_stop, scan_done}
@@ -56,13 +55,13 @@ sets_snoc (v ∷ ws) w l i k e = sets_snoc ws w (set l i v) (suc i) k (omega ari
 
 -- ---- whether a number is to come
 
-asked_none : (a : Asked) → nothing_asked a ≡ true → Fits a → ⊥
-asked_none (asked.Count m) e f = subst T (sym e) tt
-asked_none (asked.Quantity m) e f = subst T (sym e) tt
-asked_none asked.Threshold e f = subst T (sym e) tt
-asked_none (asked.Member top p) e f = subst T (sym e) tt
-asked_none (asked.Literal top p) e f = subst T (sym e) tt
-asked_none asked.Nothing e f = f
+asked_none : (a : Option Asked) → is_none a ≡ true → Fits a → ⊥
+asked_none (Some (asked.Count m)) e f = subst T (sym e) tt
+asked_none (Some (asked.Quantity m)) e f = subst T (sym e) tt
+asked_none (Some asked.Threshold) e f = subst T (sym e) tt
+asked_none (Some (asked.Member top p)) e f = subst T (sym e) tt
+asked_none (Some (asked.Literal top p)) e f = subst T (sym e) tt
+asked_none None e f = f
 
 -- ---- the loop
 
@@ -90,14 +89,14 @@ module _ (bytes : List ℕ) (top at : ℕ) (old words : List ℤ) (to k : ℕ) (
   taking_long = ap length g.held ∙ length-sets old 1 g.ws
 
   -- a number that was read
-  pub taking_on : (n : ℕ) (minus : Bool) (j : ℕ) → nothing_asked (asked_at top p) ≡ false → Said (step_of (role_of (asked_at top p)) to (drop to bytes)) n minus j → On j n minus
+  pub taking_on : (n : ℕ) (minus : Bool) (j : ℕ) → is_none (asked_at top p) ≡ false → Said (step_of (role_of (asked_at top p)) to (drop to bytes)) n minus j → On j n minus
   taking_on n minus j e s = by g.F g.leads g.scans
     where
       d : Stands (role_of (asked_at top p)) bytes to s.w j s.rest
       d = number_stands (asked_at top p) bytes to s.w j s.rest g.inside s.step
 
       by : (F : Format Contents) → Leads top p F Ends → scan (sections top) at (drop at bytes) ≡ after_all g.ws (scan F to (drop to bytes)) → On j n minus
-      by (done x) l r = absurd (subst T (sym (ap (λ (q : Point). nothing_asked (asked_at top q)) l) ∙ e) tt)
+      by (done x) l r = absurd (subst T (sym (ap (λ (q : Point). is_none (asked_at top q)) l) ∙ e) tt)
       by (word role next) l r =
           let q = s.size in
           let m = fits_size (asked_at top p) to s.w l.0 d.good in
@@ -127,32 +126,32 @@ module _ (bytes : List ℕ) (top at : ℕ) (old words : List ℤ) (to k : ℕ) (
           }
 
   -- a refusal of one
-  pub taking_stop : (f : Refusal) → nothing_asked (asked_at top p) ≡ false → step_of (role_of (asked_at top p)) to (drop to bytes) ≡ stop f → scan (sections top) at (drop at bytes) ≡ refused f
+  pub taking_stop : (f : Refusal) → is_none (asked_at top p) ≡ false → step_of (role_of (asked_at top p)) to (drop to bytes) ≡ stop f → scan (sections top) at (drop at bytes) ≡ refused f
   taking_stop f e s = by g.F g.leads g.scans
     where
       by : (F : Format Contents) → Leads top p F Ends → scan (sections top) at (drop at bytes) ≡ after_all g.ws (scan F to (drop to bytes)) → scan (sections top) at (drop at bytes) ≡ refused f
-      by (done x) l r = absurd (subst T (sym (ap (λ (q : Point). nothing_asked (asked_at top q)) l) ∙ e) tt)
+      by (done x) l r = absurd (subst T (sym (ap (λ (q : Point). is_none (asked_at top q)) l) ∙ e) tt)
       by (word role next) l r =
           r ∙ ap (after_all g.ws) (scan_stop role next to (drop to bytes) f (ap (λ (x : Role). step_of x to (drop to bytes)) (sym l.1) ∙ s)) ∙ all_refused g.ws f
 
   -- the last number was taken
-  taking_done : nothing_asked (asked_at top p) ≡ true → scan (sections top) at (drop at bytes) ≡ taken g.ws to (drop to bytes)
+  taking_done : is_none (asked_at top p) ≡ true → scan (sections top) at (drop at bytes) ≡ taken g.ws to (drop to bytes)
   taking_done e = by g.F g.leads g.scans
     where
       by : (F : Format Contents) → Leads top p F Ends → scan (sections top) at (drop at bytes) ≡ after_all g.ws (scan F to (drop to bytes)) → scan (sections top) at (drop at bytes) ≡ taken g.ws to (drop to bytes)
       by (done x) l r = r ∙ ap (after_all g.ws) (scan_done x to (drop to bytes)) ∙ all_taken g.ws to (drop to bytes)
       by (word role next) l r = absurd (asked_none (asked_at top p) e l.0)
 
-  pub taking_ends : (filled : Bool) (r : Taken) → nothing_asked (asked_at top p) ≡ true → r ≡ ended_at (length bytes) to k filled → TakesScan (scan (sections top) at (drop at bytes)) filled old words r
+  pub taking_ends : (filled : Bool) (r : Taken) → is_none (asked_at top p) ≡ true → r ≡ ended_at (length bytes) to k filled → TakesScan (scan (sections top) at (drop at bytes)) filled old words r
   taking_ends filled r e h = subst (λ (s : Scan). TakesScan s filled old words r) (sym (taking_done e)) (by (drop to bytes) refl)
     where
       by : (bs : List ℕ) → drop to bytes ≡ bs → TakesScan (taken g.ws to bs) filled old words r
       by [] z =
           let m : length bytes - to ≡ 0 = sym (length-drop to bytes) ∙ ap length z in
-          (h ∙ if_lt_no to (length bytes) (took.Refused (Trailing to)) (took.Words k filled) (omega arith) ∙ ap (λ (x : ℕ). took.Words x filled) g.counts, g.held)
+          (h ∙ if_lt_no to (length bytes) (Err (Trailing to)) (Ok (k, filled)) (omega arith) ∙ ap (λ (x : ℕ). Ok (x, filled)) g.counts, g.held)
       by (b ∷ bs) z =
           let m : length bytes - to ≡ suc (length bs) = sym (length-drop to bytes) ∙ ap length z in
-          h ∙ if_lt_yes to (length bytes) (took.Refused (Trailing to)) (took.Words k filled) (omega arith)
+          h ∙ if_lt_yes to (length bytes) (Err (Trailing to)) (Ok (k, filled)) (omega arith)
 
 -- ---- the whole
 
@@ -174,7 +173,7 @@ pub record Topped (bytes : List ℕ) (top at : ℕ) : Type 0 where
 
 pub topped : (bytes : List ℕ) (top : ℕ) (minus : Bool) (at : ℕ) → Said (step_of (count 256) 0 bytes) top minus at → Topped bytes top at
 topped bytes top minus at s =
-    let d = number_stands (asked.Count 256) bytes 0 s.w at s.rest (omega arith) s.step in
+    let d = number_stands (Some (asked.Count 256)) bytes 0 s.w at s.rest (omega arith) s.step in
     let g = count_good 256 0 s.w d.good in
     let m = s.size in
     let k = g.1 in

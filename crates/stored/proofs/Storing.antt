@@ -8,13 +8,12 @@ use native.Mathlib.Omega.{arith}
 use lib.IntN.{ℤ}
 use lib.ListN.{length, take, drop}
 use lib.Seq.{take-append_seam}
+use Rattle.std.specs.Prelude.{Result, Ok, Err}
 use Rattle.meaning.proofs.Tools.{clash}
 use Rattle.meaning.proofs.Cond.{lt_case}
 use Rattle.results.specs.Results.{number_of, place_of}
 use Rattle.results.specs.declared.Refusal.{Refusal}
 use Rattle.results.specs.declared.Refusal.TheVariants.{ShortBuffer}
-use Rattle.results.specs.declared.Written.{Written}
-use Rattle.results.specs.declared.Written.TheVariants as result
 use Rattle.results.proofs.Determined.{refusal_determined}
 use Rattle.table.specs.Contents.{Contents}
 use Rattle.table.specs.Grammar.{contents_of, accepted}
@@ -30,25 +29,25 @@ use Rattle.stored.proofs.NameLaws.{empty_short, empty_length}
 
 -- ---- results taken apart
 
-abbrev is_refused : Written → Bool
-is_refused (result.Wrote n) = false
-is_refused (result.Refused f) = true
+abbrev is_refused : Result ℕ Refusal → Bool
+is_refused (Ok n) = false
+is_refused (Err f) = true
 
-abbrev refusal_in : Refusal → Written → Refusal
-refusal_in d (result.Wrote n) = d
-refusal_in d (result.Refused f) = f
+abbrev refusal_in : Refusal → Result ℕ Refusal → Refusal
+refusal_in d (Ok n) = d
+refusal_in d (Err f) = f
 
-abbrev length_in : Written → ℕ
-length_in (result.Wrote n) = n
-length_in (result.Refused f) = 0
+abbrev length_in : Result ℕ Refusal → ℕ
+length_in (Ok n) = n
+length_in (Err f) = 0
 
-pub wrote≢refused {ℓ} : {X : Type ℓ} (r : Written) (n : ℕ) (f : Refusal) → r ≡ result.Wrote n → r ≡ result.Refused f → X
+pub wrote≢refused {ℓ} : {X : Type ℓ} (r : Result ℕ Refusal) (n : ℕ) (f : Refusal) → r ≡ Ok n → r ≡ Err f → X
 wrote≢refused r n f a b = absurd (clash (ap is_refused b) (ap is_refused a))
 
-pub same_refusal : (r : Written) (f g : Refusal) → r ≡ result.Refused f → r ≡ result.Refused g → f ≡ g
+pub same_refusal : (r : Result ℕ Refusal) (f g : Refusal) → r ≡ Err f → r ≡ Err g → f ≡ g
 same_refusal r f g a b = ap (refusal_in f) (sym a ∙ b)
 
-pub same_length : (r : Written) (m n : ℕ) → r ≡ result.Wrote m → r ≡ result.Wrote n → m ≡ n
+pub same_length : (r : Result ℕ Refusal) (m n : ℕ) → r ≡ Ok m → r ≡ Ok n → m ≡ n
 same_length r m n a b = ap length_in (sym a ∙ b)
 
 -- "Old to new to old gives the same words"
@@ -59,10 +58,10 @@ stored_held t c e =
 
 -- ---- a refusal of the judge
 
-module _ (t : List ℤ) (old new : List ℕ) (r : Written) where
-  pub stores_refused : (g : Refusal) → Refused t Nothing (number_of g) (place_of g) → r ≡ result.Refused g → new ≡ old → Stores t old new r
+module _ (t : List ℤ) (old new : List ℕ) (r : Result ℕ Refusal) where
+  pub stores_refused : (g : Refusal) → Refused t Nothing (number_of g) (place_of g) → r ≡ Err g → new ≡ old → Stores t old new r
   stores_refused g h e u = record {
-    refused = λ f. (λ k. subst (λ (x : Refusal). StoreRefused t (length old) (number_of x) (place_of x)) (same_refusal r g f e k) (before h), λ w. e ∙ ap result.Refused (is f w));
+    refused = λ f. (λ k. subst (λ (x : Refusal). StoreRefused t (length old) (number_of x) (place_of x)) (same_refusal r g f e k) (before h), λ w. e ∙ ap Err (is f w));
     untouched = λ f k. u;
     wrote = λ c a k. absurd (refused_not_accepted t Nothing (number_of g) (place_of g) c h a);
     back = λ n k. wrote≢refused r n g k e;
@@ -80,14 +79,14 @@ module _ (t : List ℤ) (old new : List ℕ) (r : Written) where
     stores_short h = record {
       refused = λ f. (
         λ k. subst (λ (x : Refusal). StoreRefused t (length old) (number_of x) (place_of x)) (same_refusal r ShortBuffer f e k) (short c a h refl refl),
-        λ w. e ∙ ap result.Refused (is f w),
+        λ w. e ∙ ap Err (is f w),
       );
       untouched = λ f k. (l.short h).1;
       wrote = λ d b k. absurd (let z = ap (λ (x : Contents). length (plainly x)) (accepted_unique t Nothing c d a b) in omega arith);
       back = λ n k. wrote≢refused r n ShortBuffer k e;
     }
       where
-        e : r ≡ result.Refused ShortBuffer
+        e : r ≡ Err ShortBuffer
         e = (l.short h).0
 
         is : (f : Refusal) → StoreRefused t (length old) (number_of f) (place_of f) → ShortBuffer ≡ f
@@ -99,19 +98,19 @@ module _ (t : List ℤ) (old new : List ℕ) (r : Written) where
     stores_whole h = record {
       refused = λ f. (λ k. wrote≢refused r (length (plainly c)) f e k, λ w. none f w);
       untouched = λ f k. wrote≢refused r (length (plainly c)) f e k;
-      wrote = λ d b k. subst (λ (x : Contents). (r ≡ result.Wrote (length (plainly x))) × (new ≡ plainly x ++ drop (length (plainly x)) old)) (accepted_unique t Nothing c d a b) (l.fits h);
+      wrote = λ d b k. subst (λ (x : Contents). (r ≡ Ok (length (plainly x))) × (new ≡ plainly x ++ drop (length (plainly x)) old)) (accepted_unique t Nothing c d a b) (l.fits h);
       back = λ n k. (c, a, ap read_bytes (front n k) ∙ stored_held t c a.holds);
     }
       where
-        e : r ≡ result.Wrote (length (plainly c))
+        e : r ≡ Ok (length (plainly c))
         e = (l.fits h).0
 
         -- the bytes written are the stored form
-        front : (n : ℕ) → r ≡ result.Wrote n → take n new ≡ plainly c
+        front : (n : ℕ) → r ≡ Ok n → take n new ≡ plainly c
         front n k =
             ap (λ (m : ℕ). take m new) (sym (same_length r (length (plainly c)) n e k)) ∙ ap (take (length (plainly c))) (l.fits h).1 ∙ take-append_seam (plainly c) (drop (length (plainly c)) old)
 
-        none : (f : Refusal) → StoreRefused t (length old) (number_of f) (place_of f) → r ≡ result.Refused f
+        none : (f : Refusal) → StoreRefused t (length old) (number_of f) (place_of f) → r ≡ Err f
         none f (before k) = absurd (refused_not_accepted t Nothing (number_of f) (place_of f) c k a)
         none f (short d b k n p) = absurd (let z = ap (λ (x : Contents). length (plainly x)) (accepted_unique t Nothing c d a b) in omega arith)
 

@@ -10,15 +10,14 @@ use lib.Dec.{T}
 use lib.IntN.{ℤ, pos, negsuc, nat_abs}
 use lib.ListN.{length, drop}
 use lib.Signed.{non_neg}
+use Rattle.std.specs.Prelude.{Option, Some, None, Ok, Err}
 use Rattle.meaning.proofs.Cond.{lt_case}
 use Rattle.results.specs.declared.Refusal.{Refusal}
 use Rattle.table.specs.Roles.{Role, count, quantity, member, fault}
 use Rattle.stored.specs.Bytes.{from_complement, from_twice, two_of, four_of, Step, stop, go, step_of}
-use Rattle.stored.specs.Machine.{role_of, got_of, signed}
+use Rattle.stored.specs.Machine.{Got, role_of, got_of, signed}
 use Rattle.stored.specs.declared.points.Asked.{Asked}
 use Rattle.stored.specs.declared.points.Asked.TheVariants as asked
-use Rattle.stored.specs.declared.numbers.Got.{Got}
-use Rattle.stored.specs.declared.numbers.Got.TheVariants as got
 use Rattle.stored.proofs.Forms.{two_there, four_there, two_cut, four_cut, cut≢whole, rest_in}
 use Rattle.stored.proofs.Steps.{count_form, quantity_form, threshold_form, member_form, literal_form}
 use Rattle.stored.proofs.NumberLaws.{Gone, gone}
@@ -53,39 +52,39 @@ module _ (role : Role) (l : List ℕ) (i : ℕ) (value : ℕ → ℤ) (w : ℤ) 
           let e : i + 4 ≤ length l = omega arith in
           record { good = g.good; low = omega arith; high = omega arith; after = sym (ap rest_in (sym (four_there l i e) ∙ g.there)) ∙ ap (λ (m : ℕ). drop m l) (sym n) }
 
-pub number_stands : (a : Asked) (l : List ℕ) (i : ℕ) (w : ℤ) (j : ℕ) (rest : List ℕ) → i ≤ length l → step_of (role_of a) i (drop i l) ≡ go w j rest → Stands (role_of a) l i w j rest
-number_stands (asked.Count m) l i w j rest h e = by_two (count m) l i pos w j rest h (gone (count m) i 2 pos (two_of (drop i l)) w j rest (sym (count_form m i (drop i l)) ∙ e))
-number_stands (asked.Quantity m) l i w j rest h e =
+pub number_stands : (a : Option Asked) (l : List ℕ) (i : ℕ) (w : ℤ) (j : ℕ) (rest : List ℕ) → i ≤ length l → step_of (role_of a) i (drop i l) ≡ go w j rest → Stands (role_of a) l i w j rest
+number_stands (Some (asked.Count m)) l i w j rest h e = by_two (count m) l i pos w j rest h (gone (count m) i 2 pos (two_of (drop i l)) w j rest (sym (count_form m i (drop i l)) ∙ e))
+number_stands (Some (asked.Quantity m)) l i w j rest h e =
     by_two (quantity (pos 0) (pos m)) l i pos w j rest h (gone (quantity (pos 0) (pos m)) i 2 pos (two_of (drop i l)) w j rest (sym (quantity_form m i (drop i l)) ∙ e))
-number_stands asked.Threshold l i w j rest h e =
+number_stands (Some asked.Threshold) l i w j rest h e =
     by_four (quantity (negsuc 0) (pos 4194304)) l i from_complement w j rest h (gone (quantity (negsuc 0) (pos 4194304)) i 4 from_complement (four_of (drop i l)) w j rest (sym (threshold_form i (drop i l)) ∙ e))
-number_stands (asked.Member top p) l i w j rest h e =
+number_stands (Some (asked.Member top p)) l i w j rest h e =
     by_two (member false top p) l i pos w j rest h (gone (member false top p) i 2 pos (two_of (drop i l)) w j rest (sym (member_form top p i (drop i l)) ∙ e))
-number_stands (asked.Literal top p) l i w j rest h e =
+number_stands (Some (asked.Literal top p)) l i w j rest h e =
     by_two (member true top p) l i from_twice w j rest h (gone (member true top p) i 2 from_twice (two_of (drop i l)) w j rest (sym (literal_form top p i (drop i l)) ∙ e))
-number_stands asked.Nothing l i w j rest h e = by_two (count 0) l i pos w j rest h (gone (count 0) i 2 pos (two_of (drop i l)) w j rest (sym (count_form 0 i (drop i l)) ∙ e))
+number_stands None l i w j rest h e = by_two (count 0) l i pos w j rest h (gone (count 0) i 2 pos (two_of (drop i l)) w j rest (sym (count_form 0 i (drop i l)) ∙ e))
 
 -- ---- what the code was told of a number
 
 abbrev is_number : Got → Bool
-is_number (got.Number n minus j) = true
-is_number (got.Refused f) = false
+is_number (Ok (n, minus, j)) = true
+is_number (Err f) = false
 
 abbrev size_in : Got → ℕ
-size_in (got.Number n minus j) = n
-size_in (got.Refused f) = 0
+size_in (Ok (n, minus, j)) = n
+size_in (Err f) = 0
 
 abbrev sign_in : Got → Bool
-sign_in (got.Number n minus j) = minus
-sign_in (got.Refused f) = false
+sign_in (Ok (n, minus, j)) = minus
+sign_in (Err f) = false
 
 abbrev next_in : Got → ℕ
-next_in (got.Number n minus j) = j
-next_in (got.Refused f) = 0
+next_in (Ok (n, minus, j)) = j
+next_in (Err f) = 0
 
 abbrev fault_in : Refusal → Got → Refusal
-fault_in d (got.Number n minus j) = d
-fault_in d (got.Refused f) = f
+fault_in d (Ok (n, minus, j)) = d
+fault_in d (Err f) = f
 
 pub record Said (s : Step) (n : ℕ) (minus : Bool) (j : ℕ) : Type 0 where
   pub w : ℤ
@@ -94,7 +93,7 @@ pub record Said (s : Step) (n : ℕ) (minus : Bool) (j : ℕ) : Type 0 where
   pub size : n ≡ nat_abs w
   pub whole : signed minus n ≡ w
 
-pub said_number : (s : Step) (n : ℕ) (minus : Bool) (j : ℕ) → got_of s ≡ got.Number n minus j → Said s n minus j
+pub said_number : (s : Step) (n : ℕ) (minus : Bool) (j : ℕ) → got_of s ≡ Ok (n, minus, j) → Said s n minus j
 said_number (stop f) n minus j e = absurd (subst T (sym (ap is_number e)) tt)
 said_number (go w i bs) n minus j e =
     let m = sym (ap size_in e) in
@@ -106,6 +105,6 @@ said_number (go w i bs) n minus j e =
       whole = ap (λ (b : Bool). signed b n) (sym (ap sign_in e)) ∙ ap (signed (not (non_neg w))) m ∙ signed_back w;
     }
 
-pub said_refused : (s : Step) (f : Refusal) → got_of s ≡ got.Refused f → s ≡ stop f
+pub said_refused : (s : Step) (f : Refusal) → got_of s ≡ Err f → s ≡ stop f
 said_refused (stop r) f e = ap stop (ap (fault_in f) e)
 said_refused (go w i bs) f e = absurd (subst T (ap is_number e) tt)

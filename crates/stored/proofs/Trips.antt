@@ -4,23 +4,23 @@ use mathlib.Core.List.{List, ◌++◌}
 use Prim.Native.Nat.{ℕ, ◌≤◌}
 use lib.IntN.{ℤ}
 use lib.ListN.{length, take, drop}
-use Rattle.results.specs.declared.Written.{Written}
-use Rattle.results.specs.declared.Written.TheVariants as result
+use Rattle.std.specs.Prelude.{Result, Ok}
+use Rattle.results.specs.declared.Refusal.{Refusal}
 use Rattle.stored.specs.Bytes.{no_names}
 use Rattle.stored.specs.Promises.{Stores}
 use Rattle.stored.specs.Restoring.{Restores}
 use Rattle.stored.proofs.NameLaws.{empty_unnamed}
 
 -- what `store` wrote is restored to the same words
-pub there_and_back : (t : List ℤ) (old new : List ℕ) (n : ℕ) → Stores t old new (result.Wrote n) → (words words' : List ℤ) (r : Written) → 16384 ≤ length words → Restores (take n new) words words' r
-    → (r ≡ result.Wrote (length t)) × (words' ≡ t ++ drop (length t) words)
+pub there_and_back : (t : List ℤ) (old new : List ℕ) (n : ℕ) → Stores t old new (Ok n) → (words words' : List ℤ) (r : Result ℕ Refusal) → 16384 ≤ length words → Restores (take n new) words words' r
+    → (r ≡ Ok (length t)) × (words' ≡ t ++ drop (length t) words)
 there_and_back t old new n a words words' r h b =
     let k = a.back n refl in
     b.wrote t (no_names k.0.atoms) k.0 h k.2 k.1 (empty_unnamed k.0.atoms)
 
 -- what `restore` wrote is stored as the same bytes
-pub back_and_there : (bytes : List ℕ) (words words' : List ℤ) (n : ℕ) → Restores bytes words words' (result.Wrote n) → (old new : List ℕ) (r : Written) → length bytes ≤ length old → Stores (take n words') old new r
-    → (r ≡ result.Wrote (length bytes)) × (new ≡ bytes ++ drop (length bytes) old)
+pub back_and_there : (bytes : List ℕ) (words words' : List ℤ) (n : ℕ) → Restores bytes words words' (Ok n) → (old new : List ℕ) (r : Result ℕ Refusal) → length bytes ≤ length old → Stores (take n words') old new r
+    → (r ≡ Ok (length bytes)) × (new ≡ bytes ++ drop (length bytes) old)
 back_and_there bytes words words' n a old new r h b =
     let k = a.back n refl in
-    subst (λ (l : List ℕ). length l ≤ length old → (r ≡ result.Wrote (length l)) × (new ≡ l ++ drop (length l) old)) k.2 (b.wrote k.0 k.1) h
+    subst (λ (l : List ℕ). length l ≤ length old → (r ≡ Ok (length l)) × (new ≡ l ++ drop (length l) old)) k.2 (b.wrote k.0 k.1) h

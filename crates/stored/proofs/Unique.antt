@@ -6,11 +6,11 @@ use mathlib.Core.List.{List}
 use Prim.Native.Nat.{ℕ, ◌≤◌, ◌<◌}
 use lib.IntN.{ℤ}
 use lib.ListN.{length}
+use Rattle.std.specs.Prelude.{Result}
 use Rattle.meaning.proofs.Cond.{lt_case, bool_case}
 use Rattle.results.specs.Results.{number_of, place_of}
 use Rattle.results.specs.declared.Refusal.{Refusal}
 use Rattle.results.specs.declared.Refusal.TheVariants.{ShortBuffer, NamesLost, ShortWords}
-use Rattle.results.specs.declared.Written.{Written}
 use Rattle.table.specs.Contents.{Contents}
 use Rattle.judging.specs.declared.Buffer.TheVariants.{Nothing}
 use Rattle.judging.specs.Refusals.{Accepted}
@@ -19,7 +19,7 @@ use Rattle.stored.specs.Bytes.{named, Reading, refused_for, holds, read_bytes}
 use Rattle.stored.specs.Promises.{plainly, before, short, Stores}
 use Rattle.stored.specs.Restoring.{RestoreRefused, room, bytes, words, names, Restores}
 
-module _ (t : List ℤ) (old : List ℕ) (new new' : List ℕ) (r r' : Written) (a : Stores t old new r) (b : Stores t old new' r') where
+module _ (t : List ℤ) (old : List ℕ) (new new' : List ℕ) (r r' : Result ℕ Refusal) (a : Stores t old new r) (b : Stores t old new' r') where
   by_room : (c : Contents) → Accepted t Nothing c → (length old < length (plainly c)) ⊎ (length (plainly c) ≤ length old) → (r ≡ r') × (new ≡ new')
   by_room c h (inl k) =
       let x = (a.refused ShortBuffer).1 (short c h k refl refl) in
@@ -40,7 +40,7 @@ module _ (t : List ℤ) (old : List ℕ) (new new' : List ℕ) (r r' : Written) 
   pub stores_unique : (r ≡ r') × (new ≡ new')
   stores_unique = by_table (decided t Nothing)
 
-module _ (bs : List ℕ) (old new new' : List ℤ) (r r' : Written) (a : Restores bs old new r) (b : Restores bs old new' r') where
+module _ (bs : List ℕ) (old new new' : List ℤ) (r r' : Result ℕ Refusal) (a : Restores bs old new r) (b : Restores bs old new' r') where
   by_refusal : (f : Refusal) → RestoreRefused bs (length old) (number_of f) (place_of f) → (r ≡ r') × (new ≡ new')
   by_refusal f h =
       let x = (a.refused f).1 h in

@@ -4,12 +4,11 @@
 --   Leads top p F Q   the format F asks for the numbers that the points from p on ask for; where it is done, Q holds of what was made and of the point
 --   Fits a            what is asked fits its bytes
 -- Assumes nothing.
-use Rattle.std.specs.Prelude.{◌≡◌, Bool, true, false, not, List, ◌++◌, ℕ, zero, suc, ◌≤◌, ◌<◌, ℤ, pos, negsuc, neg_ℤ, nat_abs, length, drop}
+use Rattle.std.specs.Prelude.{◌≡◌, Bool, true, false, not, List, ◌++◌, ℕ, zero, suc, ◌≤◌, ◌<◌, ℤ, pos, negsuc, neg_ℤ, nat_abs, length, drop, Option, Some, None, Result, Ok, Err}
 use Rattle.std.proofs.Math.Option.{none}
 use Rattle.std.specs.Int.Signed.{non_neg}
+use Rattle.results.specs.declared.Refusal.{Refusal}
 use Rattle.results.specs.declared.Refusal.TheVariants.{ShortBuffer}
-use Rattle.results.specs.declared.Written.{Written}
-use Rattle.results.specs.declared.Written.TheVariants as result
 use Rattle.table.specs.Roles.{Role, count, quantity, member, fault, Format, done, word}
 use Rattle.table.specs.Contents.{Contents}
 use Rattle.table.specs.Grammar.{accepted, contents_of}
@@ -20,8 +19,6 @@ use Rattle.stored.specs.declared.points.Point.{Point}
 use Rattle.stored.specs.declared.points.Point.TheVariants as point
 use Rattle.stored.specs.declared.points.Asked.{Asked}
 use Rattle.stored.specs.declared.points.Asked.TheVariants as asked
-use Rattle.stored.specs.declared.numbers.Got.{Got}
-use Rattle.stored.specs.declared.numbers.Got.TheVariants as got
 
 -- ---- points
 
@@ -70,47 +67,39 @@ most_by (suc zero) = 64
 most_by (suc (suc zero)) = 64
 most_by (suc (suc (suc l))) = 16
 
-abbrev pub member_by : ℕ → ℕ → ℕ → ℕ → Asked
-member_by top g p zero = asked.Literal g p
-member_by top g p (suc l) = asked.Member top p
+abbrev pub member_by : ℕ → ℕ → ℕ → ℕ → Option Asked
+member_by top g p zero = Some (asked.Literal g p)
+member_by top g p (suc l) = Some (asked.Member top p)
 
-abbrev pub asked_at : ℕ → Point → Asked
-asked_at top point.Aggregates = asked.Count 64
-asked_at top (point.Function g k) = asked.Quantity 3
-asked_at top (point.Comparison g k) = asked.Quantity 1
-asked_at top (point.Threshold g k) = asked.Threshold
-asked_at top (point.Elements g k) = asked.Count 64
-asked_at top (point.Value g k n p) = asked.Quantity 65535
-asked_at top (point.Atom g k n p) = asked.Member top p
-asked_at top (point.Rules g) = asked.Count 1024
-asked_at top (point.Count g k l) = asked.Count (most_by l)
+abbrev pub asked_at : ℕ → Point → Option Asked
+asked_at top point.Aggregates = Some (asked.Count 64)
+asked_at top (point.Function g k) = Some (asked.Quantity 3)
+asked_at top (point.Comparison g k) = Some (asked.Quantity 1)
+asked_at top (point.Threshold g k) = Some asked.Threshold
+asked_at top (point.Elements g k) = Some (asked.Count 64)
+asked_at top (point.Value g k n p) = Some (asked.Quantity 65535)
+asked_at top (point.Atom g k n p) = Some (asked.Member top p)
+asked_at top (point.Rules g) = Some (asked.Count 1024)
+asked_at top (point.Count g k l) = Some (asked.Count (most_by l))
 asked_at top (point.Member g k l n p) = member_by top g p l
-asked_at top point.End = asked.Nothing
-
-abbrev pub nothing_asked : Asked → Bool
-nothing_asked (asked.Count m) = false
-nothing_asked (asked.Quantity h) = false
-nothing_asked asked.Threshold = false
-nothing_asked (asked.Member top p) = false
-nothing_asked (asked.Literal top p) = false
-nothing_asked asked.Nothing = true
+asked_at top point.End = None
 
 -- the role; where nothing is asked no number is read
-abbrev pub role_of : Asked → Role
-role_of (asked.Count m) = count m
-role_of (asked.Quantity h) = quantity (pos 0) (pos h)
-role_of asked.Threshold = quantity (negsuc 0) (pos 4194304)
-role_of (asked.Member top p) = member false top p
-role_of (asked.Literal top p) = member true top p
-role_of asked.Nothing = count 0
+abbrev pub role_of : Option Asked → Role
+role_of (Some (asked.Count m)) = count m
+role_of (Some (asked.Quantity h)) = quantity (pos 0) (pos h)
+role_of (Some asked.Threshold) = quantity (negsuc 0) (pos 4194304)
+role_of (Some (asked.Member top p)) = member false top p
+role_of (Some (asked.Literal top p)) = member true top p
+role_of None = count 0
 
-abbrev pub Fits : Asked → Type 0
-Fits (asked.Count m) = m ≤ 65535
-Fits (asked.Quantity h) = h ≤ 65535
-Fits asked.Threshold = Unit {0}
-Fits (asked.Member top p) = top ≤ 65535
-Fits (asked.Literal top p) = top ≤ 32767
-Fits asked.Nothing = ⊥
+abbrev pub Fits : Option Asked → Type 0
+Fits (Some (asked.Count m)) = m ≤ 65535
+Fits (Some (asked.Quantity h)) = h ≤ 65535
+Fits (Some asked.Threshold) = Unit {0}
+Fits (Some (asked.Member top p)) = top ≤ 65535
+Fits (Some (asked.Literal top p)) = top ≤ 32767
+Fits None = ⊥
 
 abbrev pub Leads : {A : Type 0} → ℕ → Point → Format A → (A → Point → Type 0) → Type 0
 Leads top p (done x) Q = Q x p
@@ -119,23 +108,26 @@ Leads top p (word role next) Q =
 
 -- ---- what the functions return
 
--- a number's size and sign
+-- a number's size and sign, and the next place; or the refusal
+abbrev pub Got : Type 0
+Got = Result (ℕ × Bool × ℕ) Refusal
+
 abbrev pub got_of : Step → Got
-got_of (stop r) = got.Refused r
-got_of (go w j bs) = got.Number (nat_abs w) (not (non_neg w)) j
+got_of (stop r) = Err r
+got_of (go w j bs) = Ok (nat_abs w, not (non_neg w), j)
 
 abbrev pub signed : Bool → ℕ → ℤ
 signed true n = neg_ℤ (pos n)
 signed false n = pos n
 
 -- the bytes of a number by what is asked
-abbrev pub bytes_by : Asked → Bool → ℕ → List ℕ
-bytes_by (asked.Count m) b n = two n
-bytes_by (asked.Quantity h) b n = two n
-bytes_by asked.Threshold b n = four (complement (signed b n))
-bytes_by (asked.Member top p) b n = two n
-bytes_by (asked.Literal top p) b n = two (twice (signed b n))
-bytes_by asked.Nothing b n = two n
+abbrev pub bytes_by : Option Asked → Bool → ℕ → List ℕ
+bytes_by (Some (asked.Count m)) b n = two n
+bytes_by (Some (asked.Quantity h)) b n = two n
+bytes_by (Some asked.Threshold) b n = four (complement (signed b n))
+bytes_by (Some (asked.Member top p)) b n = two n
+bytes_by (Some (asked.Literal top p)) b n = two (twice (signed b n))
+bytes_by None b n = two n
 
 -- ---- accepted words
 
@@ -150,9 +142,9 @@ abbrev pub PutTable : List ℤ → List ℕ → ℕ → List ℕ → Type 0
 PutTable t old to new = (c : Contents) → contents_of t ≡ accepted c → Put old 0 (plainly c) to new
 
 -- writing them into a buffer
-pub record Laying (bytes old new : List ℕ) (r : Written) : Type 0 where
-  pub fits : length bytes ≤ length old → (r ≡ result.Wrote (length bytes)) × (new ≡ bytes ++ drop (length bytes) old)
-  pub short : length old < length bytes → (r ≡ result.Refused ShortBuffer) × (new ≡ old)
+pub record Laying (bytes old new : List ℕ) (r : Result ℕ Refusal) : Type 0 where
+  pub fits : length bytes ≤ length old → (r ≡ Ok (length bytes)) × (new ≡ bytes ++ drop (length bytes) old)
+  pub short : length old < length bytes → (r ≡ Err ShortBuffer) × (new ≡ old)
 
-abbrev pub Storing : List ℤ → List ℕ → List ℕ → Written → Type 0
+abbrev pub Storing : List ℤ → List ℕ → List ℕ → Result ℕ Refusal → Type 0
 Storing t old new r = (c : Contents) → contents_of t ≡ accepted c → Laying (plainly c) old new r

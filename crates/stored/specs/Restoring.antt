@@ -4,11 +4,9 @@
 --   Encodes           the bytes are the stored form of contents within 01's ranges, with names of at most 32 bytes
 --   Restores          the whole promise, for every input
 -- Assumes nothing.
-use Rattle.std.specs.Prelude.{◌≡◌, true, false, ◌↔◌, List, ◌++◌, ℕ, ◌≤◌, ◌<◌, ℤ, length, take, drop}
+use Rattle.std.specs.Prelude.{◌≡◌, true, false, ◌↔◌, List, ◌++◌, ℕ, ◌≤◌, ◌<◌, ℤ, length, take, drop, Result, Ok, Err}
 use Rattle.results.specs.Results.{number_of, place_of}
 use Rattle.results.specs.declared.Refusal.{Refusal}
-use Rattle.results.specs.declared.Written.{Written}
-use Rattle.results.specs.declared.Written.TheVariants as result
 use Rattle.table.specs.Contents.{Contents, InRange, encode}
 use Rattle.judging.specs.declared.Buffer.TheVariants.{Nothing}
 use Rattle.judging.specs.Refusals.{Accepted, Refused}
@@ -31,14 +29,14 @@ pub record Encodes (bytes : List ℕ) (ws : List ℤ) (names : List (List ℕ)) 
   pub words : ws ≡ encode c
   pub stands : bytes ≡ stored c names
 
-pub record Restores (bytes : List ℕ) (old new : List ℤ) (r : Written) : Type 0 where
+pub record Restores (bytes : List ℕ) (old new : List ℤ) (r : Result ℕ Refusal) : Type 0 where
   -- refused exactly with these, and then nothing is written
-  pub refused : (f : Refusal) → (r ≡ result.Refused f) ↔ RestoreRefused bytes (length old) (number_of f) (place_of f)
-  pub untouched : (f : Refusal) → r ≡ result.Refused f → new ≡ old
+  pub refused : (f : Refusal) → (r ≡ Err f) ↔ RestoreRefused bytes (length old) (number_of f) (place_of f)
+  pub untouched : (f : Refusal) → r ≡ Err f → new ≡ old
   -- otherwise the words at the front, the rest of the buffer kept
   pub wrote : (ws : List ℤ) (names : List (List ℕ)) (c : Contents) → 16384 ≤ length old → read_bytes bytes ≡ holds ws names → Accepted ws Nothing c → named names ≡ false
-      → (r ≡ result.Wrote (length ws)) × (new ≡ ws ++ drop (length ws) old)
+      → (r ≡ Ok (length ws)) × (new ≡ ws ++ drop (length ws) old)
   -- "New to old to new gives the same bytes when all names are empty": of the words that were written
-  pub back : (n : ℕ) → r ≡ result.Wrote n → (c : Contents) × Accepted (take n new) Nothing c × (plainly c ≡ bytes)
+  pub back : (n : ℕ) → r ≡ Ok n → (c : Contents) × Accepted (take n new) Nothing c × (plainly c ≡ bytes)
   -- the bytes hold words exactly if they are the stored form of contents within 01's ranges, with names of at most 32 bytes
   pub exact : (ws : List ℤ) (names : List (List ℕ)) → (read_bytes bytes ≡ holds ws names) ↔ ((c : Contents) × Encodes bytes ws names c)

@@ -8,15 +8,13 @@ ghost use Rattle.std.specs.Prelude.{◌≡◌, length};
 ghost use Rattle.stored.specs.Machine.{Held, Storing};
 ghost use Rattle.stored.specs.Promises.{Stores};
 ghost use Rattle.stored.specs.Restoring.{Restores};
-ghost use Rattle.stored.specs.Taking.{names_fault, earlier_of};
 
-use crate::reading::{Taken, take_table};
+use crate::reading::take_table;
 use crate::writing::put_table;
 use heads::Lists;
 use judging::Buffer;
 use layout::Table;
-use results::{Refusal, Written};
-use table::Fault;
+use results::Refusal;
 
 mod numbers;
 mod points;
@@ -27,86 +25,57 @@ mod writing;
 pub type Words = [i32; Table::WORDS];
 
 // The bytes of an accepted table, if the buffer has room for all of them.
-fn store_held(words: &[i32], bytes: &mut [u8]) -> Written
+fn store_held(words: &[i32], bytes: &mut [u8]) -> Result<usize, Refusal>
     requires { Held words.now }
     ensures { Storing words.now bytes.old bytes.new result }
 {
     let mut nothing = [0u8; 1];
     let length = put_table(words, &mut nothing);
     if bytes.len() < length {
-        return Written::Refused(Refusal::ShortBuffer);
+        return Err(Refusal::ShortBuffer);
     }
-    let wrote = put_table(words, bytes);
-    Written::Wrote(wrote)
+    Ok(put_table(words, bytes))
 }
 
 // The table as bytes at the front of the buffer, with empty names: how many, the rest being kept; or a refusal, and then the whole buffer is kept. The memory of the
 // judge is lent: nothing is said of what it holds before or after, and nothing depends on it.
-pub fn store_with(words: &[i32], bytes: &mut [u8], lists: &mut Lists) -> Written
+pub fn store_with(words: &[i32], bytes: &mut [u8], lists: &mut Lists) -> Result<usize, Refusal>
     ensures { Stores words.now bytes.old bytes.new result }
 {
-    let judged = judging::judge_by(words, Buffer::Nothing, lists);
-    let fault = judged.fault;
-    match fault {
-        Fault::Refused(f) => Written::Refused(f),
-        Fault::Nothing => store_held(words, bytes),
-    }
+    judging::judge_by(words, Buffer::Nothing, lists)?;
+    store_held(words, bytes)
 }
 
 // The same with memory of its own.
-pub fn store(words: &[i32], bytes: &mut [u8]) -> Written
+pub fn store(words: &[i32], bytes: &mut [u8]) -> Result<usize, Refusal>
     ensures { Stores words.now bytes.old bytes.new result }
 {
     let mut lists = [0u16; heads::SIZE];
     store_with(words, bytes, &mut lists)
 }
 
-// "24 going back while some name isn't empty".
-fn names_fault(filled: bool) -> Fault
-    ensures { result ≡ names_fault filled }
-{
-    if filled {
-        return Fault::Refused(Refusal::NamesLost);
-    }
-    Fault::Nothing
-}
-
-// The first of two faults.
-fn earlier(first: Fault, second: Fault) -> Fault
-    ensures { result ≡ earlier_of first second }
-{
-    match first {
-        Fault::Refused(f) => Fault::Refused(f),
-        Fault::Nothing => second,
-    }
-}
-
-fn restore_in(bytes: &[u8], words: &mut [i32], memory: &mut [i32], lists: &mut Lists) -> Written
+fn restore_in(
+    bytes: &[u8],
+    words: &mut [i32],
+    memory: &mut [i32],
+    lists: &mut Lists,
+) -> Result<usize, Refusal>
     requires { length memory.old ≡ 16384 }
     ensures { Restores bytes.now words.old words.new result }
 {
     if words.len() < Table::WORDS {
-        return Written::Refused(Refusal::ShortWords);
+        return Err(Refusal::ShortWords);
     }
-    let taken = take_table(bytes, memory);
-    match taken {
-        Taken::Refused(f) => Written::Refused(f),
-        Taken::Words(n, filled) => {
-            if Table::WORDS < n {
-                return Written::Refused(Refusal::TooManyWords);
-            }
-            let judged = judging::judge_by(&memory[..n], Buffer::Nothing, lists);
-            let found = judged.fault;
-            let fault = earlier(found, names_fault(filled));
-            match fault {
-                Fault::Refused(f) => Written::Refused(f),
-                Fault::Nothing => {
-                    take_table(bytes, words);
-                    Written::Wrote(n)
-                }
-            }
-        }
+    let (n, filled) = take_table(bytes, memory)?;
+    if Table::WORDS < n {
+        return Err(Refusal::TooManyWords);
     }
+    judging::judge_by(&memory[..n], Buffer::Nothing, lists)?;
+    if filled {
+        return Err(Refusal::NamesLost);
+    }
+    take_table(bytes, words)?;
+    Ok(n)
 }
 
 // The words of stored bytes at the front of a buffer of at least 16,384: how many, the rest being kept; or a refusal, and then the whole buffer is kept. Memory for
@@ -116,14 +85,14 @@ pub fn restore_with(
     words: &mut [i32],
     memory: &mut Words,
     lists: &mut Lists,
-) -> Written
+) -> Result<usize, Refusal>
     ensures { Restores bytes.now words.old words.new result }
 {
     restore_in(bytes, words, memory, lists)
 }
 
 // The same with memory of its own.
-pub fn restore(bytes: &[u8], words: &mut [i32]) -> Written
+pub fn restore(bytes: &[u8], words: &mut [i32]) -> Result<usize, Refusal>
     ensures { Restores bytes.now words.old words.new result }
 {
     let mut memory = [0i32; Table::WORDS];

@@ -1,11 +1,11 @@
 // Which number of a table comes next: a point of the grammar of `table`, said for words and bytes alike. Meaning: `specs/Machine.antt`, tied to the grammar by
 // `proofs/Leading.antt`.
 ghost use Rattle.std.specs.Prelude.{◌≡◌};
-ghost use Rattle.stored.specs.Machine.{aggregate_next, element_next, rule_next, list_next, member_next, point_after, most_by, member_by, asked_at, nothing_asked};
+ghost use Rattle.stored.specs.Machine.{aggregate_next, element_next, rule_next, list_next, member_next, point_after, most_by, member_by, asked_at};
 
 // The number that comes next. With it stand: how many aggregates there are, how many aggregates or rules follow this one, how many lists of the rule follow
 // this one, how many members of the list follow this one, and the number of the member before.
-#[derive(Clone, Copy)]
+#[derive(Clone, Copy, Debug, PartialEq, Eq)]
 pub enum Point {
     Aggregates,
     Function(usize, usize),
@@ -21,15 +21,14 @@ pub enum Point {
 }
 
 // What is asked of a number: a count of 0 to the first, a function, comparison or value of 0 to the first, a threshold, an atom or an aggregate literal of
-// 1 to the first whose number is above the second; or no number is to come.
-#[derive(Clone, Copy)]
+// 1 to the first whose number is above the second.
+#[derive(Clone, Copy, Debug, PartialEq, Eq)]
 pub enum Asked {
     Count(usize),
     Quantity(usize),
     Threshold,
     Member(usize, usize),
     Literal(usize, usize),
-    Nothing,
 }
 
 // `k` of `g` aggregates are to come.
@@ -120,44 +119,30 @@ fn most(l: usize) -> usize
 }
 
 // A member of a list of a rule, by how many lists follow it.
-fn member(top: usize, g: usize, p: usize, l: usize) -> Asked
+fn member(top: usize, g: usize, p: usize, l: usize) -> Option<Asked>
     ensures { result ≡ member_by top g p l }
 {
     if l == 0 {
-        return Asked::Literal(g, p);
+        return Some(Asked::Literal(g, p));
     }
-    Asked::Member(top, p)
+    Some(Asked::Member(top, p))
 }
 
-// What is asked of the number at a point, in a table of `top` atoms.
-pub fn asks(p: Point, top: usize) -> Asked
+// What is asked of the number at a point, in a table of `top` atoms; at the end no number is to come.
+pub fn asks(p: Point, top: usize) -> Option<Asked>
     ensures { result ≡ asked_at top p }
 {
     match p {
-        Point::Aggregates => Asked::Count(64),
-        Point::Function(_, _) => Asked::Quantity(3),
-        Point::Comparison(_, _) => Asked::Quantity(1),
-        Point::Threshold(_, _) => Asked::Threshold,
-        Point::Elements(_, _) => Asked::Count(64),
-        Point::Value(_, _, _, _) => Asked::Quantity(65535),
-        Point::Atom(_, _, _, q) => Asked::Member(top, q),
-        Point::Rules(_) => Asked::Count(1024),
-        Point::Count(_, _, l) => Asked::Count(most(l)),
+        Point::Aggregates => Some(Asked::Count(64)),
+        Point::Function(_, _) => Some(Asked::Quantity(3)),
+        Point::Comparison(_, _) => Some(Asked::Quantity(1)),
+        Point::Threshold(_, _) => Some(Asked::Threshold),
+        Point::Elements(_, _) => Some(Asked::Count(64)),
+        Point::Value(_, _, _, _) => Some(Asked::Quantity(65535)),
+        Point::Atom(_, _, _, q) => Some(Asked::Member(top, q)),
+        Point::Rules(_) => Some(Asked::Count(1024)),
+        Point::Count(_, _, l) => Some(Asked::Count(most(l))),
         Point::Member(g, _, l, _, q) => member(top, g, q, l),
-        Point::End => Asked::Nothing,
-    }
-}
-
-// Whether no number is to come.
-pub fn nothing(what: Asked) -> bool
-    ensures { result ≡ nothing_asked what }
-{
-    match what {
-        Asked::Count(_) => false,
-        Asked::Quantity(_) => false,
-        Asked::Threshold => false,
-        Asked::Member(_, _) => false,
-        Asked::Literal(_, _) => false,
-        Asked::Nothing => true,
+        Point::End => None,
     }
 }

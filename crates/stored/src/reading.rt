@@ -5,23 +5,9 @@ ghost use Rattle.stored.specs.Bytes.{name_of, names_of, sections, scan, read_byt
 ghost use Rattle.stored.specs.Machine.{signed};
 ghost use Rattle.stored.specs.Taking.{name_told, names_told, ended_at, TakesScan, TakesAfter, Takes};
 
-use crate::numbers::{Got, count_at, number_at};
-use crate::points::{Point, asks, nothing, step};
+use crate::numbers::{count_at, number_at};
+use crate::points::{Point, asks, step};
 use results::Refusal;
-
-// What names come to: whether one is not empty, and the next place; or a refusal.
-#[derive(Clone, Copy)]
-pub enum Named {
-    Names(bool, usize),
-    Refused(Refusal),
-}
-
-// What bytes hold: how many words, and whether some name is not empty; or a refusal.
-#[derive(Clone, Copy)]
-pub enum Taken {
-    Words(usize, bool),
-    Refused(Refusal),
-}
 
 // A number by its size and whether it is below 0.
 fn word_of(minus: bool, n: usize) -> i32
@@ -47,61 +33,51 @@ fn put(minus: bool, n: usize, k: usize, words: &mut [i32])
     }
 }
 
-// One name at `at`: its length, then its bytes, which may be any.
-fn name_at(bytes: &[u8], at: usize) -> Named
+// One name at `at`: its length, then its bytes, which may be any. Whether it is not empty, and the next place.
+fn name_at(bytes: &[u8], at: usize) -> Result<(bool, usize), Refusal>
     requires { at ≤ length bytes.now }
     ensures { result ≡ name_told (name_of at (drop at bytes.now)) }
 {
-    let got = count_at(bytes, at, 32);
-    match got {
-        Got::Refused(f) => Named::Refused(f),
-        Got::Number(n, _, first) => {
-            if bytes.len() - first < n {
-                return Named::Refused(Refusal::Absent(first));
-            }
-            let filled = 0 < n;
-            let next = first + n;
-            Named::Names(filled, next)
-        }
+    let (n, _, first) = count_at(bytes, at, 32)?;
+    if bytes.len() - first < n {
+        return Err(Refusal::Absent(first));
     }
+    Ok((0 < n, first + n))
 }
 
-// The names of `n` atoms.
-fn names_at(bytes: &[u8], at: usize, n: usize) -> Named
+// The names of `n` atoms: whether one is not empty, and the next place.
+fn names_at(bytes: &[u8], at: usize, n: usize) -> Result<(bool, usize), Refusal>
     requires { at ≤ length bytes.now }
     ensures { result ≡ names_told (names_of n at (drop at bytes.now)) }
 {
     let mut to = at;
-    let mut left = n;
     let mut any = false;
-    while 0 < left {
-        let name = name_at(bytes, to);
-        match name {
-            Named::Refused(f) => {
-                return Named::Refused(f);
-            }
-            Named::Names(filled, next) => {
-                any = filled | any;
-                to = next;
-                left -= 1;
-            }
-        }
+    for _ in 0..n {
+        let (filled, next) = name_at(bytes, to)?;
+        any = filled | any;
+        to = next;
     }
-    Named::Names(any, to)
+    Ok((any, to))
 }
 
 // "then 3 at the first byte too many": `k` words were taken up to `at`.
-fn ended(bytes: &[u8], at: usize, k: usize, filled: bool) -> Taken
+fn ended(bytes: &[u8], at: usize, k: usize, filled: bool) -> Result<(usize, bool), Refusal>
     ensures { result ≡ ended_at (length bytes.now) at k filled }
 {
     if at < bytes.len() {
-        return Taken::Refused(Refusal::Trailing(at));
+        return Err(Refusal::Trailing(at));
     }
-    Taken::Words(k, filled)
+    Ok((k, filled))
 }
 
 // The words from index 1 on, of a table of `top` atoms; the end of the bytes is asked for too.
-fn take_sections(bytes: &[u8], top: usize, filled: bool, at: usize, words: &mut [i32]) -> Taken
+fn take_sections(
+    bytes: &[u8],
+    top: usize,
+    filled: bool,
+    at: usize,
+    words: &mut [i32],
+) -> Result<(usize, bool), Refusal>
     requires { (at ≤ length bytes.now) × (top ≤ 256) }
     ensures { TakesScan (scan (sections top) at (drop at bytes.now)) filled words.old words.new result }
 {
@@ -109,47 +85,36 @@ fn take_sections(bytes: &[u8], top: usize, filled: bool, at: usize, words: &mut 
     let mut k: usize = 1;
     let mut point = Point::Aggregates;
     loop {
-        let what = asks(point, top);
-        if nothing(what) {
+        let Some(what) = asks(point, top) else {
             return ended(bytes, to, k, filled);
-        }
-        let got = number_at(bytes, to, what);
-        match got {
-            Got::Refused(f) => {
-                return Taken::Refused(f);
-            }
-            Got::Number(n, minus, next) => {
-                put(minus, n, k, words);
-                point = step(point, n);
-                to = next;
-                k += 1;
-            }
-        }
+        };
+        let (n, minus, next) = number_at(bytes, to, what)?;
+        put(minus, n, k, words);
+        point = step(point, n);
+        to = next;
+        k += 1;
     }
 }
 
 // What follows the number of atoms: their names, then the other words.
-fn take_named(bytes: &[u8], top: usize, at: usize, words: &mut [i32]) -> Taken
+fn take_named(
+    bytes: &[u8],
+    top: usize,
+    at: usize,
+    words: &mut [i32],
+) -> Result<(usize, bool), Refusal>
     requires { (at ≤ length bytes.now) × (top ≤ 256) }
     ensures { TakesAfter top (names_of top at (drop at bytes.now)) words.old words.new result }
 {
-    let names = names_at(bytes, at, top);
-    match names {
-        Named::Refused(f) => Taken::Refused(f),
-        Named::Names(filled, first) => {
-            put(false, top, 0, words);
-            take_sections(bytes, top, filled, first, words)
-        }
-    }
+    let (filled, first) = names_at(bytes, at, top)?;
+    put(false, top, 0, words);
+    take_sections(bytes, top, filled, first, words)
 }
 
 // All words that the bytes hold, to the front of the buffer as far as there is room; how many they are, and whether some name is not empty; or the first refusal.
-pub fn take_table(bytes: &[u8], words: &mut [i32]) -> Taken
+pub fn take_table(bytes: &[u8], words: &mut [i32]) -> Result<(usize, bool), Refusal>
     ensures { Takes (read_bytes bytes.now) words.old words.new result }
 {
-    let got = count_at(bytes, 0, 256);
-    match got {
-        Got::Refused(f) => Taken::Refused(f),
-        Got::Number(top, _, at) => take_named(bytes, top, at, words),
-    }
+    let (top, _, at) = count_at(bytes, 0, 256)?;
+    take_named(bytes, top, at, words)
 }

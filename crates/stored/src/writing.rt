@@ -1,5 +1,5 @@
 // A table as bytes: the number of atoms, empty names, then word after word in the bytes of its role. Meaning: `specs/Bytes.antt`, `stored`.
-ghost use Rattle.std.specs.Prelude.{◌≡◌, true, ◌≤◌, ◌<◌, drop};
+ghost use Rattle.std.specs.Prelude.{◌≡◌, true, ◌≤◌, ◌<◌, drop, Some};
 ghost use Rattle.bytes_out.specs.Putting.{Put};
 ghost use Rattle.stored.specs.Bytes.{two, four, complement, twice, no_names, names_bytes, laid, sections};
 ghost use Rattle.stored.specs.Machine.{signed, bytes_by, Held, HeldOf, PutTable};
@@ -58,15 +58,12 @@ fn put_literal(minus: bool, n: usize, at: usize, out: &mut [u8]) -> usize
 // A number in the bytes of what is asked of it, by its size and whether it is below 0.
 fn put_word(what: Asked, minus: bool, n: usize, at: usize, out: &mut [u8]) -> usize
     requires { (n ≤ 4194304) × (minus ≡ true → 0 < n) }
-    ensures { Put out.old at (bytes_by what minus n) result out.new }
+    ensures { Put out.old at (bytes_by (Some what) minus n) result out.new }
 {
     match what {
-        Asked::Count(_) => put_two(n, at, out),
-        Asked::Quantity(_) => put_two(n, at, out),
+        Asked::Count(_) | Asked::Quantity(_) | Asked::Member(_, _) => put_two(n, at, out),
         Asked::Threshold => put_threshold(minus, n, at, out),
-        Asked::Member(_, _) => put_two(n, at, out),
         Asked::Literal(_, _) => put_literal(minus, n, at, out),
-        Asked::Nothing => put_two(n, at, out),
     }
 }
 
@@ -75,10 +72,8 @@ fn put_names(n: usize, at: usize, out: &mut [u8]) -> usize
     ensures { Put out.old at (names_bytes (no_names n)) result out.new }
 {
     let mut to = at;
-    let mut left = n;
-    while 0 < left {
+    for _ in 0..n {
         to = put_two(0, to, out);
-        left -= 1;
     }
     to
 }
@@ -89,15 +84,15 @@ fn put_sections(t: &[i32], top: usize, at: usize, out: &mut [u8]) -> usize
     ensures { Put out.old at (laid (sections top) (drop 1 t.now)) result out.new }
 {
     let mut to = at;
-    let mut k: usize = 1;
     let mut point = Point::Aggregates;
-    while k < t.len() {
-        let what = asks(point, top);
+    for k in 1..t.len() {
+        let Some(what) = asks(point, top) else {
+            unreachable!();
+        };
         let w = t[k];
         let n = words::size(w);
-        to = put_word(what, words::below(w), n, to, out);
+        to = put_word(what, w < 0, n, to, out);
         point = step(point, n);
-        k += 1;
     }
     to
 }

@@ -4,6 +4,8 @@
 --   sole_lies        the rule that alone supports lies in the table;  sole-sets: there is an atom that step e sets
 --   ask-alone, blame-alone   both depend on the values alone
 -- Assumes nothing.
+use Rattle.std.specs.Prelude.{Some, None}
+use Rattle.std.specs.Prelude as code
 use Prim.Native.Nat.{ℕ, suc, ◌<◌}
 use native.Mathlib.Omega.{arith}
 use mathlib.Core.Path.{◌≡◌, refl, sym, ap, ◌∙◌, subst, fun_ext}
@@ -31,8 +33,6 @@ use Rattle.literals.proofs.Alone.{value_alone, reason_alone}
 use Rattle.steps.specs.Steps.{Verdict, settled, Work, set, refuted, if_settled, witness, Support, add_support, support, step_e, step_d, step_true, step_de, step_atom}
 use Rattle.support.specs.declared.Ask.{Ask}
 use Rattle.support.specs.declared.Ask.TheVariants.{Nothing, Conflict, Unset, Sole}
-use Rattle.support.specs.declared.Next.{Next}
-use Rattle.support.specs.declared.Next.TheVariants as next
 use Rattle.support.specs.Asking.{witness_by, witness_of, is_none, supports_of, some_rule, forced_of, sole_by, open_by, true_by, ask_by, ask_of, joined_by, blame_by, blame_of, did_ask}
 use Rattle.support.proofs.Forcing.{forced_nothing, forced_alone}
 
@@ -101,10 +101,10 @@ module _ (p : ℕ) (w : Work) where
     -- ---- the steps
 
     -- the rule at i supports, and those that s tells of
-    sole : (B : Levels) (i : ℕ) (b : Bool) (s : Support) → Many b s → (x : Next) → forced_of w.cell (rule_at t i) ≡ x
+    sole : (B : Levels) (i : ℕ) (b : Bool) (s : Support) → Many b s → (x : code.Option (ℕ × Bool)) → forced_of w.cell (rule_at t i) ≡ x
         → step_true (suc s.number) (some (rule_at t i)) (union (w.reason p) B) w ≡ did_ask t p (sole_by i b x) B w
-    sole B i false s h (next.Set q v) g = ap (λ (k : ℕ). step_true (suc k) (some (rule_at t i)) (union (w.reason p) B) w) h
-    sole B i false s h next.Nothing g = ap (λ (k : ℕ). step_true (suc k) (some (rule_at t i)) (union (w.reason p) B) w) h ∙ forced_nothing (rule_at t i) (union (w.reason p) B) w g
+    sole B i false s h (Some (q, v)) g = ap (λ (k : ℕ). step_true (suc k) (some (rule_at t i)) (union (w.reason p) B) w) h
+    sole B i false s h None g = ap (λ (k : ℕ). step_true (suc k) (some (rule_at t i)) (union (w.reason p) B) w) h ∙ forced_nothing (rule_at t i) (union (w.reason p) B) w g
     sole B i true s h x g = ap (λ (k : ℕ). step_true (suc k) (some (rule_at t i)) (union (w.reason p) B) w) h.1
 
     step_true_lem : (B : Levels) (l : List ℕ) → step_true (among l).number (among l).who (union (w.reason p) B) w ≡ did_ask t p (true_by f (forced_of w.cell) t l) B w
@@ -168,26 +168,26 @@ ask_is t tb a p = refl
 pub ask_by_lem : (t : List ℤ) (tb : Table) (a : ℕ → Cell) (p : ℕ) (v : Value) → cell_value (a p) ≡ v → ask_of t tb a p ≡ ask_by (supports_of a p) (forced_of a) t v (with_head t p (places_of t tb))
 ask_by_lem t tb a p v e = ask_is t tb a p ∙ ap (λ (u : Value). ask_by (supports_of a p) (forced_of a) t u (with_head t p (places_of t tb))) e
 
-pub sole_nothing : (i : ℕ) (b : Bool) → sole_by i b next.Nothing ≡ Nothing
+pub sole_nothing : (i : ℕ) (b : Bool) → sole_by i b None ≡ Nothing
 sole_nothing i true = refl
 sole_nothing i false = refl
 
 -- the rule that a true atom's answer names: it is in the list, and step e sets an atom there
-module _ (f : Rule → Bool) (g : Rule → Next) (t : List ℤ) where
+module _ (f : Rule → Bool) (g : Rule → code.Option (ℕ × Bool)) (t : List ℤ) where
   abbrev Named : List ℕ → ℕ → Type 0
-  Named l j = ((k : ℕ) × (k < length l) × (get_or l k 0 ≡ j)) × ((q : ℕ) × (v : Bool) × (g (rule_at t j) ≡ next.Set q v))
+  Named l j = ((k : ℕ) × (k < length l) × (get_or l k 0 ≡ j)) × ((q : ℕ) × (v : Bool) × (g (rule_at t j) ≡ Some (q, v)))
 
   true_named : (l : List ℕ) (j : ℕ) → true_by f g t l ≡ Sole j → Named l j
   unfolding true_by
   true_named [] j e = absurd (let z : ◌≡◌ {A = ℕ} 0 1 = cc in omega arith)
   true_named (i ∷ l) j e = at (f (rule_at t i)) (some_rule f t l) (g (rule_at t i)) refl e (true_named l j)
     where
-      at : (b c : Bool) (x : Next) → g (rule_at t i) ≡ x → elim b [ true ↦ sole_by i c x | false ↦ true_by f g t l ] ≡ Sole j → (true_by f g t l ≡ Sole j → Named l j) → Named (i ∷ l) j
+      at : (b c : Bool) (x : code.Option (ℕ × Bool)) → g (rule_at t i) ≡ x → elim b [ true ↦ sole_by i c x | false ↦ true_by f g t l ] ≡ Sole j → (true_by f g t l ≡ Sole j → Named l j) → Named (i ∷ l) j
       at true true x h e r = absurd (let z : ◌≡◌ {A = ℕ} 0 1 = cc in omega arith)
-      at true false (next.Set q v) h e r =
+      at true false (Some (q, v)) h e r =
           let s : i ≡ j = cc in
           ((0, omega arith, s), (q, v, ap (λ (k : ℕ). g (rule_at t k)) (sym s) ∙ h))
-      at true false next.Nothing h e r = absurd (let z : ◌≡◌ {A = ℕ} 0 1 = cc in omega arith)
+      at true false None h e r = absurd (let z : ◌≡◌ {A = ℕ} 0 1 = cc in omega arith)
       at false c x h e r =
           let m = r e in
           let k = m.0.1 in
@@ -198,10 +198,10 @@ module _ (f : Rule → Bool) (g : Rule → Next) (t : List ℤ) where
   true_not_unset [] e = let z : ◌≡◌ {A = ℕ} 0 1 = cc in omega arith
   true_not_unset (i ∷ l) e = at (f (rule_at t i)) (some_rule f t l) (g (rule_at t i)) e (true_not_unset l)
     where
-      at : (b c : Bool) (x : Next) → elim b [ true ↦ sole_by i c x | false ↦ true_by f g t l ] ≡ Unset → (true_by f g t l ≡ Unset → ⊥) → ⊥
+      at : (b c : Bool) (x : code.Option (ℕ × Bool)) → elim b [ true ↦ sole_by i c x | false ↦ true_by f g t l ] ≡ Unset → (true_by f g t l ≡ Unset → ⊥) → ⊥
       at true true x e r = let z : ◌≡◌ {A = ℕ} 0 1 = cc in omega arith
-      at true false (next.Set q v) e r = let z : ◌≡◌ {A = ℕ} 0 1 = cc in omega arith
-      at true false next.Nothing e r = let z : ◌≡◌ {A = ℕ} 0 1 = cc in omega arith
+      at true false (Some (q, v)) e r = let z : ◌≡◌ {A = ℕ} 0 1 = cc in omega arith
+      at true false None e r = let z : ◌≡◌ {A = ℕ} 0 1 = cc in omega arith
       at false c x e r = r e
 
   open_not_sole : (b : Bool) (j : ℕ) → open_by b ≡ Sole j → ⊥
@@ -230,7 +230,7 @@ module _ (t : List ℤ) (tb : Table) (a : ℕ → Cell) (p i : ℕ) (e : ask_of 
       let m = named in
       subst (RuleLies tb.atoms tb.aggregates t) m.0.2 (with_lie tb t p (places_of t tb) (places_lie tb t tb.first tb.rules laid.rules_lie) m.0.0 m.0.1)
 
-  pub sole_sets : (q : ℕ) × (v : Bool) × (forced_of a (rule_at t i) ≡ next.Set q v)
+  pub sole_sets : (q : ℕ) × (v : Bool) × (forced_of a (rule_at t i) ≡ Some (q, v))
   sole_sets = named.1
 
 -- ---- the records do not matter
@@ -251,7 +251,7 @@ module _ (vs : List ℕ) (rs : List Record) where
       let l = with_head t p (places_of t tb) in
       ask_is t tb a p
       ∙ ap (λ (f : Rule → Bool). ask_by f (forced_of a) t (cell_value (a p)) l) (supports_alone p)
-      ∙ ap (λ (g : Rule → Next). ask_by (supports_of b p) g t (cell_value (a p)) l) (fun_ext (λ r. forced_alone r vs rs))
+      ∙ ap (λ (g : Rule → code.Option (ℕ × Bool)). ask_by (supports_of b p) g t (cell_value (a p)) l) (fun_ext (λ r. forced_alone r vs rs))
       ∙ ap (λ (v : Value). ask_by (supports_of b p) (forced_of b) t v l) (interpretation.value_alone vs rs p)
       ∙ sym (ask_is t tb b p)
 

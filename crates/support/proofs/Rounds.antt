@@ -1,4 +1,10 @@
 -- How the code walks the rules at a list of places, one rule at a time. Assumes nothing.
+use Rattle.std.specs.Prelude.{Some, None}
+use Rattle.std.specs.Prelude as code
+use Rattle.std.specs.Prelude.{MatchOption, unwrap_or}
+use Rattle.std.specs.List.{AllWithin, HoldsAt}
+use Rattle.std.proofs.lemmas.List.{get_or_default}
+use Rattle.std.proofs.lemmas.Iterator.{index_from_first}
 use Prim.Native.Nat.{ℕ, zero, suc, ◌+◌, ◌≤◌, ◌<◌}
 use borrow.Author.Tests.{lt-ltb, le-ltb}
 use native.Mathlib.Numerals.{add-one}
@@ -22,7 +28,6 @@ use Rattle.heads.proofs.Laws.{places_lie, with_lie, with_has, rules_at_lem}
 use Rattle.valuing.specs.Values.{Lit}
 use Rattle.valuing.specs.Reasons.{reason_of}
 use Rattle.support.specs.declared.Ask.TheVariants.{Conflict}
-use Rattle.support.specs.declared.Next.{Next}
 use Rattle.support.specs.Asking.{witness_of, Candidates, skipped, some_rule, sole_by, true_by, joined_by, blamed_by, blame_by, blame_of}
 
 -- ---- which rules: those with p in the head, and what is left of them
@@ -42,6 +47,12 @@ candidates_left t tb p i l h = record {
     more : (k : ℕ) → k < length (drop i l) → i + k < length l
     more k n = let e = length-drop i l in omega (arith, n, e)
 
+-- what is known of each
+pub candidate_at : (t : List ℤ) (tb : Table) (p : ℕ) (l : List ℕ) → Candidates t tb p l → (k i : ℕ) → k < length l → i ≡ get_or l k i
+    → RuleLies tb.atoms tb.aggregates t i × (has p (rule_at t i).head ≡ true)
+candidate_at t tb p l h k i n e =
+    subst (λ (j : ℕ). RuleLies tb.atoms tb.aggregates t j × (has p (rule_at t j).head ≡ true)) (sym (e ∙ get_or_default l k i 0 n)) (h.lie k n, h.headed k n)
+
 -- ---- the first that passes
 
 module _ (f : Rule → Bool) (t : List ℤ) where
@@ -53,18 +64,13 @@ module _ (f : Rule → Bool) (t : List ℤ) where
   unfolding skipped
   skip_nil = refl
 
-  module _ (l : List ℕ) (i : ℕ) where
-    split : i < length l → drop i l ≡ get_or l i 0 ∷ drop (i + 1) l
-    split h = drop-cons l i 0 h ∙ ap (λ (j : ℕ). get_or l i 0 ∷ drop j l) (sym (add-one i))
-
-    pub skip_here : i < length l → f (rule_at t (get_or l i 0)) ≡ true → skipped f t (drop i l) ≡ 0
-    skip_here h e = ap (skipped f t) (split h) ∙ skip_cons (get_or l i 0) (drop (i + 1) l) true e
-
-    pub skip_on : i < length l → f (rule_at t (get_or l i 0)) ≡ false → skipped f t (drop i l) ≡ suc (skipped f t (drop (i + 1) l))
-    skip_on h e = ap (skipped f t) (split h) ∙ skip_cons (get_or l i 0) (drop (i + 1) l) false e
-
-    pub skip_end : length l ≤ i → skipped f t (drop i l) ≡ 0
-    skip_end h = ap (skipped f t) (drop_of_length-le l h) ∙ skip_nil
+  -- the first index that passes, or the length
+  pub skipped_by : (l : List ℕ) (r : code.Option ℕ)
+      → MatchOption r (AllWithin (λ (i : ℕ). f (rule_at t i) ≡ false) l 0 (length l)) (λ k. (k < length l) × HoldsAt (λ (i : ℕ). f (rule_at t i) ≡ true) l k × AllWithin (λ (i : ℕ). f (rule_at t i) ≡ false) l 0 k)
+      → unwrap_or r (length l) ≡ skipped f t l
+  skipped_by l r m =
+      sym (index_from_first (skipped f t) (λ (i : ℕ). f (rule_at t i) ≡ true) (λ (i : ℕ). f (rule_at t i) ≡ false) skip_nil
+      (λ x xs e. skip_cons x xs true e) (λ x xs e. skip_cons x xs false e ∙ sym (add-one (skipped f t xs))) l r m)
 
   some_less : (l : List ℕ) → some_rule f t l ≡ true → skipped f t l < length l
   unfolding skipped some_rule
@@ -95,7 +101,7 @@ module _ (f : Rule → Bool) (t : List ℤ) where
 
   -- ---- what is asked at a true atom
 
-  module _ (g : Rule → Next) where
+  module _ (g : Rule → code.Option (ℕ × Bool)) where
     pub true_at : (l : List ℕ) (k : ℕ) → skipped f t l ≡ k → k < length l
         → true_by f g t l ≡ sole_by (get_or l k 0) (some_rule f t (drop (suc k) l)) (g (rule_at t (get_or l k 0)))
     unfolding skipped true_by

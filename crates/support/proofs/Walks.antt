@@ -1,40 +1,43 @@
--- How the code walks: a list of atoms from index i on, one atom at a time; and how it tests a value by its byte. Assumes nothing.
+-- How the code walks: a list of atoms from index i on, one atom at a time; and how it tests a value. Assumes nothing.
+use Rattle.std.specs.Prelude.{Some, None}
+use Rattle.std.specs.Prelude as code
 use mathlib.Core.Path.{◌≡◌, refl, sym, ap, ◌∙◌}
 use mathlib.Core.Bool.{Bool, true, false, not, ◌&&◌}
 use mathlib.Core.List.{List, [], ◌∷◌}
-use Prim.Native.Nat.{ℕ, zero, suc, ◌+◌, ◌≤◌, ◌<◌}
+use Prim.Native.Nat.{ℕ, ◌+◌, ◌≤◌, ◌<◌}
 use native.Mathlib.Numerals.{add-one}
-use native.Mathlib.Omega.{arith}
-use lib.Dec.{eqb, ltb}
-use borrow.Author.Tests.{ne_eqb, lt-ltb}
+use lib.Dec.{eqb}
 use lib.IntN.{ℤ, pos, nat_abs}
 use lib.ListN.{length, get_or, drop, drop_of_length-le}
 use lib.Seq.{drop-cons}
-use Rattle.interpretation.specs.View.{cell_by, cell_value}
 use Rattle.interpretation.specs.declared.Value.{Value}
 use Rattle.interpretation.specs.declared.Value.TheVariants.{True, False, Undefined}
-use Rattle.interpretation.specs.declared.Choice.{Choice}
-use Rattle.interpretation.specs.declared.Choice.TheVariants as choice
 use Rattle.layout.specs.Layout.{atoms}
 use Rattle.valuing.specs.Values.{says_true}
 use Rattle.support.specs.Asking.{same_value, first_with, other_true}
 
--- ---- a value by its byte
+-- ---- whether two values are the same
 
-pub same_true : (b : ℕ) → eqb b 1 ≡ same_value True (cell_value (cell_by b 0))
-same_true zero = refl
-same_true (suc zero) = refl
-same_true (suc (suc b)) = ne_eqb (suc (suc b)) 1 (λ h. omega arith)
+same_yes : (v : Value) → same_value v v ≡ true
+same_yes True = refl
+same_yes False = refl
+same_yes Undefined = refl
 
-pub same_false : (b : ℕ) → ltb 1 b ≡ same_value False (cell_value (cell_by b 0))
-same_false zero = refl
-same_false (suc zero) = refl
-same_false (suc (suc b)) = lt-ltb 1 (suc (suc b)) (omega arith)
+same_no : (v w : Value) → (w ≡ v → ⊥) → same_value v w ≡ false
+same_no True True h = absurd (h refl)
+same_no True False h = refl
+same_no True Undefined h = refl
+same_no False True h = refl
+same_no False False h = absurd (h refl)
+same_no False Undefined h = refl
+same_no Undefined True h = refl
+same_no Undefined False h = refl
+same_no Undefined Undefined h = absurd (h refl)
 
-pub same_undefined : (b : ℕ) → eqb b 0 ≡ same_value Undefined (cell_value (cell_by b 0))
-same_undefined zero = refl
-same_undefined (suc zero) = ne_eqb 1 0 (λ h. omega arith)
-same_undefined (suc (suc b)) = ne_eqb (suc (suc b)) 0 (λ h. omega arith)
+-- the test, by what it tells
+pub same_by : (b : Bool) (v w : Value) → (b ≡ true → w ≡ v) → (b ≡ false → w ≡ v → ⊥) → b ≡ same_value v w
+same_by true v w f g = sym (ap (same_value v) (f refl) ∙ same_yes v)
+same_by false v w f g = sym (same_no v w (g refl))
 
 -- ---- a list of atoms
 
@@ -48,25 +51,25 @@ module _ (l : List ℤ) (i : ℕ) where
   ended : length l ≤ i → atoms (drop i l) ≡ []
   ended h = ap atoms (drop_of_length-le l h)
 
-  abbrev pick : Bool → ℕ → Choice → Choice
-  pick b q c = elim b [ true ↦ choice.Atom q | false ↦ c ]
+  abbrev pick : Bool → ℕ → code.Option ℕ → code.Option ℕ
+  pick b q c = elim b [ true ↦ Some q | false ↦ c ]
 
   module _ (g : ℕ → Value) (v : Value) where
     with_cons : (q : ℕ) (s : List ℕ) → first_with g v (q ∷ s) ≡ pick (same_value v (g q)) q (first_with g v s)
     unfolding first_with
     with_cons q s = refl
 
-    with_nil : first_with g v [] ≡ choice.Nothing
+    with_nil : first_with g v [] ≡ None
     unfolding first_with
     with_nil = refl
 
-    pub with_here : i < length l → same_value v (g here) ≡ true → first_with g v (atoms (drop i l)) ≡ choice.Atom here
+    pub with_here : i < length l → same_value v (g here) ≡ true → first_with g v (atoms (drop i l)) ≡ Some here
     with_here h e = ap (first_with g v) (split h) ∙ with_cons here (atoms (drop (i + 1) l)) ∙ ap (λ (b : Bool). pick b here (first_with g v (atoms (drop (i + 1) l)))) e
 
     pub with_on : i < length l → same_value v (g here) ≡ false → first_with g v (atoms (drop i l)) ≡ first_with g v (atoms (drop (i + 1) l))
     with_on h e = ap (first_with g v) (split h) ∙ with_cons here (atoms (drop (i + 1) l)) ∙ ap (λ (b : Bool). pick b here (first_with g v (atoms (drop (i + 1) l)))) e
 
-    pub with_end : length l ≤ i → first_with g v (atoms (drop i l)) ≡ choice.Nothing
+    pub with_end : length l ≤ i → first_with g v (atoms (drop i l)) ≡ None
     with_end h = ap (first_with g v) (ended h) ∙ with_nil
 
   module _ (g : ℕ → Value) (p : ℕ) where
@@ -77,15 +80,15 @@ module _ (l : List ℤ) (i : ℕ) where
     unfolding other_true
     other_cons q s = refl
 
-    other_nil : other_true g p [] ≡ choice.Nothing
+    other_nil : other_true g p [] ≡ None
     unfolding other_true
     other_nil = refl
 
-    pub other_here : i < length l → test ≡ true → other_true g p (atoms (drop i l)) ≡ choice.Atom here
+    pub other_here : i < length l → test ≡ true → other_true g p (atoms (drop i l)) ≡ Some here
     other_here h e = ap (other_true g p) (split h) ∙ other_cons here (atoms (drop (i + 1) l)) ∙ ap (λ (b : Bool). pick b here (other_true g p (atoms (drop (i + 1) l)))) e
 
     pub other_on : i < length l → test ≡ false → other_true g p (atoms (drop i l)) ≡ other_true g p (atoms (drop (i + 1) l))
     other_on h e = ap (other_true g p) (split h) ∙ other_cons here (atoms (drop (i + 1) l)) ∙ ap (λ (b : Bool). pick b here (other_true g p (atoms (drop (i + 1) l)))) e
 
-    pub other_end : length l ≤ i → other_true g p (atoms (drop i l)) ≡ choice.Nothing
+    pub other_end : length l ≤ i → other_true g p (atoms (drop i l)) ≡ None
     other_end h = ap (other_true g p) (ended h) ∙ other_nil

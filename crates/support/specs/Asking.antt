@@ -10,6 +10,8 @@
 --   blame_of a R p P    "the union of the witnesses' reasons over all rules with p in the head"
 --   did_ask             the working state after steps d and e, B being that union
 -- Assumes nothing.
+use Rattle.std.specs.Prelude.{Some, None}
+use Rattle.std.specs.Prelude as code
 use Rattle.std.specs.Prelude.{ℕ, zero, suc, ◌<◌, ◌≡◌, Bool, true, false, cond, not, ◌&&◌, List, [], ◌∷◌, eqb, ℤ, length, get_or}
 use Rattle.std.proofs.Math.Option.{Option, none, some}
 use Rattle.meaning.specs.Lists.{has}
@@ -19,21 +21,15 @@ use Rattle.interpretation.specs.State.{Cell}
 use Rattle.interpretation.specs.View.{cell_value}
 use Rattle.interpretation.specs.declared.Value.{Value}
 use Rattle.interpretation.specs.declared.Value.TheVariants.{True, False, Undefined}
-use Rattle.interpretation.specs.declared.Choice.{Choice}
-use Rattle.interpretation.specs.declared.Choice.TheVariants as choice
 use Rattle.layout.specs.Layout.{atoms, part_at, pos_at, neg_at, aggs_at, rule_at}
 use Rattle.heads.specs.Heads.{places_of, with_head, AllLie}
 use Rattle.layout.specs.declared.Table.{Table}
 use Rattle.valuing.specs.Values.{says_true, says_false, says_undefined, Lit, value}
 use Rattle.valuing.specs.Reasons.{reason_of}
 use Rattle.steps.specs.Steps.{head_lits, body_lits, first_of, is_other, or_else, Work, set, refuted, step_e}
-use Rattle.literals.specs.declared.First.{First}
-use Rattle.literals.specs.declared.First.TheVariants.{At, Nothing}
 use Rattle.literals.specs.Scan.{literal_lits, first_false}
 use Rattle.support.specs.declared.Ask.{Ask}
 use Rattle.support.specs.declared.Ask.TheVariants.{Nothing, Conflict, Unset, Sole}
-use Rattle.support.specs.declared.Next.{Next}
-use Rattle.support.specs.declared.Next.TheVariants as next
 use Rattle.support.specs.declared.Witness.{Witness}
 use Rattle.support.specs.declared.Witness.TheVariants as witness
 
@@ -47,13 +43,13 @@ same_value True w = says_true w
 same_value False w = says_false w
 same_value Undefined w = says_undefined w
 
-unfoldable pub first_with : (ℕ → Value) → Value → List ℕ → Choice
-first_with g v [] = choice.Nothing
-first_with g v (q ∷ l) = elim (same_value v (g q)) [ true ↦ choice.Atom q | false ↦ first_with g v l ]
+unfoldable pub first_with : (ℕ → Value) → Value → List ℕ → code.Option ℕ
+first_with g v [] = None
+first_with g v (q ∷ l) = elim (same_value v (g q)) [ true ↦ Some q | false ↦ first_with g v l ]
 
-unfoldable pub other_true : (ℕ → Value) → ℕ → List ℕ → Choice
-other_true g p [] = choice.Nothing
-other_true g p (q ∷ l) = elim (not (eqb q p) && says_true (g q)) [ true ↦ choice.Atom q | false ↦ other_true g p l ]
+unfoldable pub other_true : (ℕ → Value) → ℕ → List ℕ → code.Option ℕ
+other_true g p [] = None
+other_true g p (q ∷ l) = elim (not (eqb q p) && says_true (g q)) [ true ↦ Some q | false ↦ other_true g p l ]
 
 -- ---- "A rule that fails to support p has one witness"
 
@@ -72,28 +68,27 @@ unfoldable pub supports_of : (ℕ → Cell) → ℕ → Rule → Bool
 supports_of a p r = has p r.head && is_none (witness_of a p r)
 
 -- in table order: the atoms first, then what comes after
-abbrev pub atom_or : Choice → Witness → Witness
-atom_or (choice.Atom q) w = witness.Atom q
-atom_or choice.Nothing w = w
+abbrev pub atom_or : code.Option ℕ → code.Option Witness → code.Option Witness
+atom_or (Some q) w = Some (witness.Atom q)
+atom_or None w = w
 
-abbrev pub refuted_by : First → Witness
-refuted_by (At k) = witness.Literal k
-refuted_by Nothing = witness.Nobody
+abbrev pub refuted_by : code.Option ℕ → code.Option Witness
+refuted_by (Some k) = Some (witness.Literal k)
+refuted_by None = None
 
 -- of the rule at i: its first false body literal
-unfoldable pub body_witness : (ℕ → Cell) → List ℤ → ℕ → Witness
+unfoldable pub body_witness : (ℕ → Cell) → List ℤ → ℕ → code.Option Witness
 body_witness a t i =
     atom_or (first_with (values_of a) False (atoms (part_at t (pos_at t i))))
     (atom_or (first_with (values_of a) True (atoms (part_at t (neg_at t i))))
     (refuted_by (first_false a (literal_lits t (part_at t (aggs_at t i))))))
 
-unfoldable pub witness_at : (ℕ → Cell) → List ℤ → ℕ → ℕ → Witness
+unfoldable pub witness_at : (ℕ → Cell) → List ℤ → ℕ → ℕ → code.Option Witness
 witness_at a t p i = atom_or (other_true (values_of a) p (atoms (part_at t i))) (body_witness a t i)
 
-abbrev pub is_nobody : Witness → Bool
-is_nobody witness.Nobody = true
-is_nobody (witness.Atom q) = false
-is_nobody (witness.Literal k) = false
+abbrev pub is_nobody : code.Option Witness → Bool
+is_nobody None = true
+is_nobody (Some w) = false
 
 -- ---- the rules at a list of places
 
@@ -115,23 +110,23 @@ some_rule f t (i ∷ l) = elim (f (rule_at t i)) [ true ↦ true | false ↦ som
 -- ---- what is asked
 
 -- "that rule's other undefined head atoms become false, then its positive body atoms still undefined true, then its negated atoms still undefined false"
-abbrev pub or_set : Choice → Bool → Next → Next
-or_set (choice.Atom q) v n = next.Set q v
-or_set choice.Nothing v n = n
+abbrev pub or_set : code.Option ℕ → Bool → code.Option (ℕ × Bool) → code.Option (ℕ × Bool)
+or_set (Some q) v n = Some (q, v)
+or_set None v n = n
 
-abbrev pub forced_by : (ℕ → Value) → Rule → Next
+abbrev pub forced_by : (ℕ → Value) → Rule → code.Option (ℕ × Bool)
 forced_by g r =
     or_set (first_with g Undefined r.head) false
-    (or_set (first_with g Undefined r.pos) true (or_set (first_with g Undefined r.neg) false next.Nothing))
+    (or_set (first_with g Undefined r.pos) true (or_set (first_with g Undefined r.neg) false None))
 
-unfoldable pub forced_of : (ℕ → Cell) → Rule → Next
+unfoldable pub forced_of : (ℕ → Cell) → Rule → code.Option (ℕ × Bool)
 forced_of a r = forced_by (values_of a) r
 
 -- the rule at i supports: is there another, and is there something to set?
-abbrev pub sole_by : ℕ → Bool → Next → Ask
+abbrev pub sole_by : ℕ → Bool → code.Option (ℕ × Bool) → Ask
 sole_by i true n = Nothing
-sole_by i false (next.Set q v) = Sole i
-sole_by i false next.Nothing = Nothing
+sole_by i false (Some (q, v)) = Sole i
+sole_by i false None = Nothing
 
 -- "No rule supports p: .. if undefined, p becomes false"
 abbrev pub open_by : Bool → Ask
@@ -139,11 +134,11 @@ open_by true = Nothing
 open_by false = Unset
 
 -- "No rule supports p: conflict if p is true"; "p is true and one rule supports it"
-unfoldable pub true_by : (Rule → Bool) → (Rule → Next) → List ℤ → List ℕ → Ask
+unfoldable pub true_by : (Rule → Bool) → (Rule → code.Option (ℕ × Bool)) → List ℤ → List ℕ → Ask
 true_by f g t [] = Conflict
 true_by f g t (i ∷ l) = elim (f (rule_at t i)) [ true ↦ sole_by i (some_rule f t l) (g (rule_at t i)) | false ↦ true_by f g t l ]
 
-abbrev pub ask_by : (Rule → Bool) → (Rule → Next) → List ℤ → Value → List ℕ → Ask
+abbrev pub ask_by : (Rule → Bool) → (Rule → code.Option (ℕ × Bool)) → List ℤ → Value → List ℕ → Ask
 ask_by f g t False l = Nothing
 ask_by f g t Undefined l = open_by (some_rule f t l)
 ask_by f g t True l = true_by f g t l

@@ -9,18 +9,17 @@ use lib.Dec.{T, leb}
 use lib.IntN.{ℤ, pos}
 use lib.ListN.{length, get_or, drop, length-drop, length-append}
 use borrow.Author.Tests.{leb-true}
+use Rattle.std.specs.Prelude.{Ok, Err}
 use Rattle.results.specs.declared.Refusal.{Refusal}
 use Rattle.meaning.specs.Program.{Rule, Program, AtomsIn}
+use Rattle.layout.specs.declared.Table.{Table}
 use Rattle.layout.specs.Layout.{Laid, program_of, start_from, aggregate_at, rule_at}
 use Rattle.layout.proofs.Inside.{atoms_in_lem}
 use Rattle.table.specs.Roles.{Result, read, refused, run}
 use Rattle.table.specs.Contents.{Contents, InRange, encode_aggregate, encode_rule, encode_all, encode, no_aggregate, program}
 use Rattle.table.specs.Grammar.{table, Outcome, accepted, refused_for, ended, outcome_by, contents_of}
 use Rattle.table.specs.Promises.{Encoding, rule_from}
-use Rattle.table.specs.Places.{no_starts, placed, unread, table_of, reading_by, reading_of}
-use Rattle.table.specs.declared.Fault.{Fault}
-use Rattle.table.specs.declared.Fault.TheVariants as fault
-use Rattle.table.specs.declared.Reading.{Reading}
+use Rattle.table.specs.Places.{no_starts, placed, table_of, reading_by, reading_of}
 use Rattle.table.proofs.Drops.{at_next, at_skip}
 use Rattle.table.proofs.Whole.{table_sound}
 use Rattle.table.proofs.LaidAggregates.{aggregates_are, aggregates_lie, placed_starts}
@@ -44,36 +43,28 @@ same_contents {c} e = ap (contents_in c) e
 
 -- ---- what `read` returns
 
-pub reading_accepted : (t : List ℤ) (c : Contents) → contents_of t ≡ accepted c → reading_of t ≡ record { table = table_of c; fault = fault.Nothing }
+pub reading_accepted : (t : List ℤ) (c : Contents) → contents_of t ≡ accepted c → reading_of t ≡ Ok (table_of c)
 unfolding reading_of
 reading_accepted t c e = ap reading_by e
 
-pub reading_refused : (t : List ℤ) (r : Refusal) → contents_of t ≡ refused_for r → reading_of t ≡ unread r
+pub reading_refused : (t : List ℤ) (r : Refusal) → contents_of t ≡ refused_for r → reading_of t ≡ Err r
 unfolding reading_of
 reading_refused t r e = ap reading_by e
 
-abbrev is_nothing : Fault → Bool
-is_nothing fault.Nothing = true
-is_nothing (fault.Refused r) = false
-
-abbrev fault_in : Refusal → Fault → Refusal
-fault_in d fault.Nothing = d
-fault_in d (fault.Refused r) = r
-
 -- nothing is at fault: the table is accepted, and these are its places
-pub fault_nothing : (t : List ℤ) → (reading_of t).fault ≡ fault.Nothing → (c : Contents) × (contents_of t ≡ accepted c) × ((reading_of t).table ≡ table_of c)
-fault_nothing t e = go (contents_of t) refl
+pub fault_nothing : (t : List ℤ) (tb : Table) → reading_of t ≡ Ok tb → (c : Contents) × (contents_of t ≡ accepted c) × (tb ≡ table_of c)
+fault_nothing t tb e = go (contents_of t) refl
   where
-    go : (o : Outcome) → contents_of t ≡ o → (c : Contents) × (contents_of t ≡ accepted c) × ((reading_of t).table ≡ table_of c)
-    go (accepted c) h = (c, h, ap (λ (r : Reading). r.table) (reading_accepted t c h))
-    go (refused_for r) h = absurd (subst T (sym (ap is_nothing (sym (ap (λ (x : Reading). x.fault) (reading_refused t r h)) ∙ e))) tt)
+    go : (o : Outcome) → contents_of t ≡ o → (c : Contents) × (contents_of t ≡ accepted c) × (tb ≡ table_of c)
+    go (accepted c) h = let f = reading_accepted t c h in (c, h, cc)
+    go (refused_for r) h = let f = reading_refused t r h in absurd (cc)
 
-pub fault_refused : (t : List ℤ) (r : Refusal) → (reading_of t).fault ≡ fault.Refused r → contents_of t ≡ refused_for r
+pub fault_refused : (t : List ℤ) (r : Refusal) → reading_of t ≡ Err r → contents_of t ≡ refused_for r
 fault_refused t r e = go (contents_of t) refl
   where
     go : (o : Outcome) → contents_of t ≡ o → contents_of t ≡ refused_for r
-    go (accepted c) h = absurd (subst T (ap is_nothing (sym (ap (λ (x : Reading). x.fault) (reading_accepted t c h)) ∙ e)) tt)
-    go (refused_for s) h = h ∙ ap refused_for (ap (fault_in r) (sym (ap (λ (x : Reading). x.fault) (reading_refused t s h)) ∙ e))
+    go (accepted c) h = let f = reading_accepted t c h in absurd (cc)
+    go (refused_for s) h = let f = reading_refused t s h in cc
 
 -- ---- an accepted table is an encoding
 

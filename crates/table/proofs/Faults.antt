@@ -43,6 +43,23 @@ passed false r o e = absurd (subst (λ (p : Option Refusal). T (is_none p)) (sym
 later : (b : Bool) (r : Refusal) (o : Option Refusal) → unless b r o ≡ none → o ≡ none
 later b r o e = ap (λ (c : Bool). unless c r o) (sym (passed b r o e)) ∙ e
 
+-- ---- the sign, as the code tests it
+
+pub below_zero : (w : ℤ) → lt_z w (pos 0) ≡ not (non_neg w)
+below_zero (pos n) = le-ltb n 0 (omega arith)
+below_zero (negsuc n) = refl
+
+-- a word that may not be barred is below 0
+module _ (signed : Bool) (w : ℤ) where
+  pub barred_yes : lt_z w (pos 0) ≡ true → signed ≡ false → (not (non_neg w) && not signed) ≡ true
+  barred_yes e f = rw (← below_zero w, e, f)
+
+  pub barred_signed : signed ≡ true → (not (non_neg w) && not signed) ≡ false
+  barred_signed f = rw f (and_false (not (non_neg w)))
+
+  pub barred_plain : lt_z w (pos 0) ≡ false → (not (non_neg w) && not signed) ≡ false
+  barred_plain e = rw (← below_zero w, e)
+
 -- ---- counts
 
 within_minus : (w : ℤ) (m : ℕ) → not (non_neg w) ≡ true → within (pos 0) (pos m) w ≡ false

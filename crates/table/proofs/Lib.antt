@@ -2,7 +2,7 @@
 pub mod Drops
 pub mod Run
 pub mod Faults
-pub mod Enums
+pub mod Returned
 pub mod Parts
 pub mod Sections
 pub mod Sound

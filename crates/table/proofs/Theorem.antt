@@ -10,6 +10,9 @@ use lib.IntN.{ℤ, pos}
 use lib.ListN.{length, get_or, take, drop, length-take, length-drop}
 use lib.Seq.{take-take, drop-cons}
 use borrow.Author.Tests.{le-leb, lt-leb}
+use Rattle.std.specs.Prelude.{Ok}
+use Rattle.std.specs.Prelude.{Result as Returned}
+use Rattle.layout.specs.declared.Table.{Table}
 use Rattle.results.specs.declared.Refusal.{Refusal}
 use Rattle.results.specs.declared.Refusal.TheVariants.{TooManyWords, Absent, Trailing}
 use Rattle.results.specs.Results.{place_of}
@@ -19,9 +22,7 @@ use Rattle.table.specs.Roles.{Result, read, refused, run}
 use Rattle.table.specs.Contents.{Contents, Ascending, AggregateInRange, InRange, encode}
 use Rattle.table.specs.Grammar.{table, Outcome, accepted, refused_for, ended, outcome_by, contents_of}
 use Rattle.table.specs.Promises.{Encoding, FirstFault}
-use Rattle.table.specs.Places.{reading_of}
-use Rattle.table.specs.declared.Fault.TheVariants as fault
-use Rattle.table.specs.declared.Reading.{Reading}
+use Rattle.table.specs.Places.{table_of, reading_of}
 use Rattle.table.proofs.Run.{same_what}
 use Rattle.table.proofs.Complete.{table_reads}
 use Rattle.table.proofs.FirstFault.{stopped, went}
@@ -53,15 +54,15 @@ encode_injective c d p q e =
     let s = table_reads 0 d [] q in
     same_what (sym r.1 ∙ ap (λ (ws : List ℤ). run table 0 (ws ++ [])) e ∙ s.1)
 
--- the same of what `read` returns: nothing is at fault exactly if the words are an encoding
-pub nothing↔encoding : (t : List ℤ) → ((reading_of t).fault ≡ fault.Nothing) ↔ ((c : Contents) × Encoding t c)
+-- the same of what `read` returns: a table exactly if the words are an encoding
+pub nothing↔encoding : (t : List ℤ) → ((tb : Table) × (reading_of t ≡ Ok tb)) ↔ ((c : Contents) × Encoding t c)
 nothing↔encoding t = (
-  λ e. let n = fault_nothing t e in (n.0, accepted_encoding t n.0 n.1),
-  λ e. ap (λ (r : Reading). r.fault) (reading_accepted t e.0 (encoding_accepted t e.0 e.1)),
+  λ e. let n = fault_nothing t e.0 e.1 in (n.0, accepted_encoding t n.0 n.1),
+  λ e. (table_of e.0, reading_accepted t e.0 (encoding_accepted t e.0 e.1)),
 )
 
 -- the contract of `read` leaves no choice
-pub reading_unique : (t : List ℤ) (r s : Reading) → r ≡ reading_of t → s ≡ reading_of t → r ≡ s
+pub reading_unique : (t : List ℤ) (r s : Returned Table Refusal) → r ≡ reading_of t → s ≡ reading_of t → r ≡ s
 reading_unique t r s e f = e ∙ sym f
 
 -- ---- the first fault from the left

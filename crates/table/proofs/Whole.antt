@@ -1,27 +1,24 @@
 -- The whole table: what was read is its encoding, and what the code makes of it. Assumes nothing.
 use mathlib.Core.Path.{◌≡◌, refl, sym, ap, ◌∙◌, subst}
-use mathlib.Core.Bool.{Bool, true, false}
+use mathlib.Core.Bool.{Bool}
 use mathlib.Core.List.{List, [], ◌∷◌, ◌++◌, append_assoc}
 use Prim.Native.Nat.{ℕ, suc, ◌+◌, ◌≤◌, ◌<◌}
 use native.Mathlib.Omega.{arith}
 use lib.IntN.{ℤ, pos, nat_abs}
 use lib.ListN.{length, drop, length-append}
 use borrow.Author.Tests.{le-leb, lt-leb}
+use Rattle.std.specs.Prelude.{Ok, Err}
 use Rattle.results.specs.declared.Refusal.{Refusal}
 use Rattle.results.specs.declared.Refusal.TheVariants.{TooManyWords}
 use Rattle.meaning.specs.Program.{Aggregate}
 use Rattle.table.specs.Roles.{count, Format, done, ◌>>=◌, Result, read, refused, run}
 use Rattle.table.specs.Contents.{NumberedRule, Contents, Each, AggregateInRange, RuleInRange, InRange, encode_aggregate, encode_rule, encode_all, encode}
 use Rattle.table.specs.Grammar.{one, times, aggregate, aggregates, rule, rules, table, contents_of, outcome_by, ended}
-use Rattle.table.specs.Places.{got_of, part_of, no_starts, placed, places_from, unread, finished, table_of, reading_by, reading_of}
-use Rattle.table.specs.declared.Got.TheVariants as got
-use Rattle.table.specs.declared.Part.{Part}
-use Rattle.table.specs.declared.Part.TheVariants as part
+use Rattle.table.specs.Places.{got_of, no_starts, placed, places_from, finished, table_of, reading_by, reading_of}
 use Rattle.table.specs.declared.Places.{Places}
-use Rattle.table.specs.declared.Fault.TheVariants as fault
-use Rattle.table.proofs.Run.{run_done, run_length, both, bind_on, bind_stop}
+use Rattle.table.proofs.Run.{run_done, run_length, run_at, both, bind_on, bind_stop}
 use Rattle.table.proofs.Faults.{count_good}
-use Rattle.table.proofs.Enums.{got_read, got_refused, part_read, part_refused}
+use Rattle.table.proofs.Returned.{got_read, got_refused}
 use Rattle.table.proofs.Sound.{one_sound, mapped, aggregate_sound, rule_sound, times_sound}
 
 -- ---- the sections are encodings
@@ -93,7 +90,7 @@ table_sound i ws c j rest e =
 
 -- ---- what the code makes of it
 
-pub reading_many : (t : List ℤ) → 16384 < length t → reading_of t ≡ unread TooManyWords
+pub reading_many : (t : List ℤ) → 16384 < length t → reading_of t ≡ Err TooManyWords
 unfolding reading_of contents_of
 reading_many t h = ap (λ (b : Bool). reading_by (outcome_by b t)) (lt-leb (length t) 16384 h)
 
@@ -101,26 +98,26 @@ pub reading_few : (t : List ℤ) → length t ≤ 16384 → reading_of t ≡ rea
 unfolding reading_of contents_of
 reading_few t h = ap (λ (b : Bool). reading_by (outcome_by b t)) (le-leb (length t) 16384 h)
 
-abbrev is_past : Part → Bool
-is_past (part.Past j) = true
-is_past (part.Refused r) = false
+-- the section of the aggregates ends where their words end
+places_end : (k i : ℕ) (starts : List ℕ) (x : Result (List Aggregate)) (q : Places) → places_from k i starts x ≡ Ok q
+    → (gs : List Aggregate) × (ws : List ℤ) × (x ≡ read gs q.end ws) × (q ≡ record { number = k + length gs; starts = placed k i gs starts; end = q.end })
+places_end k i starts (read gs j ws) q e =
+    let f : record { number = k + length gs; starts = placed k i gs starts; end = j } ≡ q = cc in
+    let g : j ≡ q.end = ap (λ (p : Places). p.end) f in
+    (gs, ws, ap (λ (l : ℕ). read gs l ws) g, sym f ∙ (λ u. record { number = k + length gs; starts = placed k i gs starts; end = g u }))
+places_end k i starts (refused r) q e = absurd (cc)
 
-abbrev because_in : Refusal → Part → Refusal
-because_in d (part.Past j) = d
-because_in d (part.Refused r) = r
-
-places_end : (k i : ℕ) (starts : List ℕ) (r : Result (List Aggregate)) → (places_from k i starts r).end ≡ part_of r
-places_end k i starts (read gs j ws) = refl
-places_end k i starts (refused r) = refl
+places_refused : (k i : ℕ) (starts : List ℕ) (x : Result (List Aggregate)) (r : Refusal) → places_from k i starts x ≡ Err r → x ≡ refused r
+places_refused k i starts (read gs j ws) r e = absurd (cc)
+places_refused k i starts (refused s) r e = cc
 
 module _ (t : List ℤ) (few : length t ≤ 16384) where
-  pub reading_stop : (r : Refusal) → got_of (run (one (count 256)) 0 t) ≡ got.Refused r → reading_of t ≡ unread r
+  pub reading_stop : (r : Refusal) → got_of (run (one (count 256)) 0 t) ≡ Err r → reading_of t ≡ Err r
   unfolding table
   reading_stop r e =
       reading_few t few ∙ ap (λ (x : Result Contents). reading_by (ended x)) (bind_stop (one (count 256)) rest1 0 t r (got_refused (one (count 256)) 0 t r e))
 
-  module _ (n j : ℕ) (e : got_of (run (one (count 256)) 0 t) ≡ got.Number n j) (places : Places)
-      (p : places ≡ places_from 0 (suc j) no_starts (run (aggregates n) j (drop j t))) where
+  module _ (n j : ℕ) (e : got_of (run (one (count 256)) 0 t) ≡ Ok (n, j)) where
     -- the first word is read, and the aggregates are to come
     first : (w : ℤ) × (nat_abs w ≡ n) × (run table 0 t ≡ run (rest1 w) j (drop j t))
     unfolding table
@@ -133,28 +130,25 @@ module _ (t : List ℤ) (few : length t ≤ 16384) where
         let g = got_read t (one (count 256)) 0 n j e in
         (one_sound (count 256) 0 t g.0 j (drop j t) g.2).next
 
-    -- the same with the number of atoms as the code has it
-    number : (x : Part) → places.end ≡ x → part_of (run (aggregates (nat_abs first.0)) j (drop j t)) ≡ x
-    number x h =
-        ap (λ (m : ℕ). part_of (run (aggregates m) j (drop j t))) first.1
-        ∙ sym (places_end 0 (suc j) no_starts (run (aggregates n) j (drop j t)))
-        ∙ sym (ap (λ (q : Places). q.end) p)
-        ∙ h
+    -- the aggregates with the number of atoms as the words have it
+    counted : (x : Result (List Aggregate)) → run (aggregates n) j (drop j t) ≡ x → run (aggregates (nat_abs first.0)) j (drop j t) ≡ x
+    counted x h = ap (λ (m : ℕ). run (aggregates m) j (drop j t)) first.1 ∙ h
 
-    pub reading_stop2 : (r : Refusal) → places.end ≡ part.Refused r → reading_of t ≡ unread r
+    pub reading_stop2 : (r : Refusal) → places_from 0 (suc j) no_starts (run (aggregates n) j (drop j t)) ≡ Err r → reading_of t ≡ Err r
     reading_stop2 r h =
         reading_few t few
         ∙ ap (λ (x : Result Contents). reading_by (ended x))
-        (first.2 ∙ bind_stop (aggregates (nat_abs first.0)) (rest2 first.0) j (drop j t) r (part_refused (aggregates (nat_abs first.0)) j (drop j t) r (number (part.Refused r) h)))
+        (first.2 ∙ bind_stop (aggregates (nat_abs first.0)) (rest2 first.0) j (drop j t) r (counted (refused r) (places_refused 0 (suc j) no_starts (run (aggregates n) j (drop j t)) r h)))
 
-    module _ (k : ℕ) (h : places.end ≡ part.Past k) where
-      second : (gs : List Aggregate) × (run (aggregates (nat_abs first.0)) j (drop j t) ≡ read gs k (drop k t))
-      second = part_read t (aggregates (nat_abs first.0)) j k (number (part.Past k) h)
+    module _ (places : Places) (p : places_from 0 (suc j) no_starts (run (aggregates n) j (drop j t)) ≡ Ok places) where
+      abbrev k : ℕ
+      k = places.end
 
-      -- the places are those of the aggregates read
-      places_are : places ≡ places_from 0 (suc j) no_starts (read second.0 k (drop k t))
-      places_are =
-          p ∙ ap (λ (m : ℕ). places_from 0 (suc j) no_starts (run (aggregates m) j (drop j t))) (sym first.1) ∙ ap (places_from 0 (suc j) no_starts) second.1
+      -- the aggregates that are read, and that the places are theirs
+      second : (gs : List Aggregate) × (run (aggregates (nat_abs first.0)) j (drop j t) ≡ read gs k (drop k t)) × (places ≡ record { number = 0 + length gs; starts = placed 0 (suc j) gs no_starts; end = k })
+      second =
+          let w = places_end 0 (suc j) no_starts (run (aggregates n) j (drop j t)) places p in
+          (w.0, run_at t (aggregates (nat_abs first.0)) j w.0 k w.1 (counted (read w.0 k w.1) w.2), w.3)
 
       after_aggregates : 3 + length (encode_all encode_aggregate second.0) ≡ suc k
       after_aggregates =
@@ -173,16 +167,13 @@ module _ (t : List ℤ) (few : length t ≤ 16384) where
           ap (λ (x : Result Contents). reading_by (ended x))
           (bind_on (rules (nat_abs first.0) (length second.0)) (λ rs. done (made (nat_abs first.0) second.0 rs)) k (drop k t) rs l [] q
           ∙ run_done (made (nat_abs first.0) second.0 rs) l [])
-          ∙ (λ u. record {
-            table = record {
-              atoms = nat_abs first.0;
-              aggregates = length second.0;
-              rules = length rs;
-              first = after_aggregates u;
-              starts = placed 0 (suc (one_word u)) second.0 no_starts;
-            };
-            fault = fault.Nothing;
-          })
+          ∙ (λ u. Ok (record {
+            atoms = nat_abs first.0;
+            aggregates = length second.0;
+            rules = length rs;
+            first = after_aggregates u;
+            starts = placed 0 (suc (one_word u)) second.0 no_starts;
+          }))
       third (read rs l (v ∷ vs)) q =
           ap (λ (x : Result Contents). reading_by (ended x))
           (bind_on (rules (nat_abs first.0) (length second.0)) (λ rs. done (made (nat_abs first.0) second.0 rs)) k (drop k t) rs l (v ∷ vs) q
@@ -193,8 +184,8 @@ module _ (t : List ℤ) (few : length t ≤ 16384) where
       pub reading_on : reading_of t ≡ finished n places.number places.starts k (run (rules n places.number) k (drop k t))
       reading_on =
           let z : 0 + length second.0 ≡ length second.0 = omega arith in
-          let g : places.number ≡ length second.0 = ap (λ (q : Places). q.number) places_are ∙ z in
-          let s : places.starts ≡ placed 0 (suc j) second.0 no_starts = ap (λ (q : Places). q.starts) places_are in
+          let g : places.number ≡ length second.0 = ap (λ (q : Places). q.number) second.2 ∙ z in
+          let s : places.starts ≡ placed 0 (suc j) second.0 no_starts = ap (λ (q : Places). q.starts) second.2 in
           reading_few t few
           ∙ ap (λ (x : Result Contents). reading_by (ended x)) (first.2 ∙ bind_on (aggregates (nat_abs first.0)) (rest2 first.0) j (drop j t) second.0 k (drop k t) second.1)
           ∙ third (run (rules (nat_abs first.0) (length second.0)) k (drop k t)) refl

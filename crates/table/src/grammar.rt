@@ -2,131 +2,89 @@
 ghost use Rattle.std.specs.Prelude.{◌≡◌, drop};
 ghost use Rattle.table.specs.Roles.{run};
 ghost use Rattle.table.specs.Grammar.{members, list, elements, aggregate, times, rule};
-ghost use Rattle.table.specs.Places.{part_of, passed_of};
+ghost use Rattle.table.specs.Places.{part_of};
 
 use crate::roles::{count_at, member_at, quantity_at};
-use crate::{Got, Part};
 use layout::{Cursor, Table};
-
-// The index past a word.
-pub fn passed(g: Got) -> Part
-    ensures { result ≡ passed_of g }
-{
-    match g {
-        Got::Number(_, next) => Part::Past(next),
-        Got::Refused(r) => Part::Refused(r),
-    }
-}
+use results::Refusal;
 
 // The index past `n` members from `i` on.
-pub fn members_at(t: &[i32], i: Cursor, n: usize, signed: bool, top: usize) -> Part
+pub fn members_at(
+    t: &[i32],
+    i: Cursor,
+    n: usize,
+    signed: bool,
+    top: usize,
+) -> Result<Cursor, Refusal>
     ensures { result ≡ part_of (run (members signed top 0 n) i (drop i t.now)) }
 {
     let mut at = i;
     let mut previous: usize = 0;
-    let mut left = n;
-    while 0 < left {
-        let m = member_at(t, at, signed, top, previous);
-        let Got::Number(a, _) = m else {
-            return passed(m);
-        };
+    for _ in 0..n {
+        let (a, next) = member_at(t, at, signed, top, previous)?;
         previous = a;
-        at += 1;
-        left -= 1;
+        at = next;
     }
-    Part::Past(at)
+    Ok(at)
 }
 
 // The index past a list of at most `most` members whose count stands at `i`.
-pub fn list_at(t: &[i32], i: Cursor, most: usize, signed: bool, top: usize) -> Part
+pub fn list_at(
+    t: &[i32],
+    i: Cursor,
+    most: usize,
+    signed: bool,
+    top: usize,
+) -> Result<Cursor, Refusal>
     ensures { result ≡ part_of (run (list most signed top) i (drop i t.now)) }
 {
-    let c = count_at(t, i, most);
-    let Got::Number(n, _) = c else {
-        return passed(c);
-    };
-    let next = i + 1;
+    let (n, next) = count_at(t, i, most)?;
     members_at(t, next, n, signed, top)
 }
 
 // The index past `n` pairs of value and atom from `i` on.
-pub fn elements_at(t: &[i32], i: Cursor, n: usize, top: usize) -> Part
+pub fn elements_at(t: &[i32], i: Cursor, n: usize, top: usize) -> Result<Cursor, Refusal>
     ensures { result ≡ part_of (run (elements top 0 n) i (drop i t.now)) }
 {
     let mut at = i;
     let mut previous: usize = 0;
-    let mut left = n;
-    while 0 < left {
-        let v = quantity_at(t, at, 0, Table::VALUE);
-        let Got::Number(_, place) = v else {
-            return passed(v);
-        };
-        let m = member_at(t, place, false, top, previous);
-        let Got::Number(a, _) = m else {
-            return passed(m);
-        };
+    for _ in 0..n {
+        let (_, place) = quantity_at(t, at, 0, Table::VALUE)?;
+        let (a, next) = member_at(t, place, false, top, previous)?;
         previous = a;
-        at += 2;
-        left -= 1;
+        at = next;
     }
-    Part::Past(at)
+    Ok(at)
 }
 
 // The index past the aggregate that begins at `i`, over atoms 1 to `top`.
-pub fn aggregate_at(t: &[i32], i: Cursor, top: usize) -> Part
+pub fn aggregate_at(t: &[i32], i: Cursor, top: usize) -> Result<Cursor, Refusal>
     ensures { result ≡ part_of (run (aggregate top) i (drop i t.now)) }
 {
-    let f = quantity_at(t, i, 0, Table::FUNCTION);
-    let Got::Number(_, comparison) = f else {
-        return passed(f);
-    };
-    let c = quantity_at(t, comparison, 0, Table::COMPARISON);
-    let Got::Number(_, threshold) = c else {
-        return passed(c);
-    };
-    let b = quantity_at(t, threshold, Table::LOWEST, Table::THRESHOLD);
-    let Got::Number(_, count) = b else {
-        return passed(b);
-    };
-    let e = count_at(t, count, Table::ELEMENTS);
-    let Got::Number(n, first) = e else {
-        return passed(e);
-    };
+    let (_, comparison) = quantity_at(t, i, 0, Table::FUNCTION)?;
+    let (_, threshold) = quantity_at(t, comparison, 0, Table::COMPARISON)?;
+    let (_, count) = quantity_at(t, threshold, Table::LOWEST, Table::THRESHOLD)?;
+    let (n, first) = count_at(t, count, Table::ELEMENTS)?;
     elements_at(t, first, n, top)
 }
 
 // The index past the rule that begins at `i`, over atoms 1 to `top` and aggregates 1 to `most`.
-pub fn rule_at(t: &[i32], i: Cursor, top: usize, most: usize) -> Part
+pub fn rule_at(t: &[i32], i: Cursor, top: usize, most: usize) -> Result<Cursor, Refusal>
     ensures { result ≡ part_of (run (rule top most) i (drop i t.now)) }
 {
-    let head = list_at(t, i, Table::HEAD, false, top);
-    let Part::Past(positive) = head else {
-        return head;
-    };
-    let body = list_at(t, positive, Table::BODY, false, top);
-    let Part::Past(negated) = body else {
-        return body;
-    };
-    let barred = list_at(t, negated, Table::BODY, false, top);
-    let Part::Past(literals) = barred else {
-        return barred;
-    };
+    let positive = list_at(t, i, Table::HEAD, false, top)?;
+    let negated = list_at(t, positive, Table::BODY, false, top)?;
+    let literals = list_at(t, negated, Table::BODY, false, top)?;
     list_at(t, literals, Table::LITERALS, true, most)
 }
 
 // The index past `n` rules from `i` on.
-pub fn rules_at(t: &[i32], i: Cursor, n: usize, top: usize, most: usize) -> Part
+pub fn rules_at(t: &[i32], i: Cursor, n: usize, top: usize, most: usize) -> Result<Cursor, Refusal>
     ensures { result ≡ part_of (run (times n (rule top most)) i (drop i t.now)) }
 {
     let mut at = i;
-    let mut left = n;
-    while 0 < left {
-        let p = rule_at(t, at, top, most);
-        let Part::Past(next) = p else {
-            return p;
-        };
-        at = next;
-        left -= 1;
+    for _ in 0..n {
+        at = rule_at(t, at, top, most)?;
     }
-    Part::Past(at)
+    Ok(at)
 }

@@ -10,9 +10,9 @@
 ghost use Rattle.std.specs.Prelude.{◌≡◌, drop};
 ghost use Rattle.table.specs.Roles.{run};
 ghost use Rattle.table.specs.Grammar.{rules};
-ghost use Rattle.table.specs.Places.{unread_part, finished, reading_of};
+ghost use Rattle.table.specs.Places.{finished, reading_of};
 
-use crate::grammar::{passed, rules_at};
+use crate::grammar::rules_at;
 use crate::roles::count_at;
 use crate::starts::aggregates_at;
 use layout::{Cursor, Table};
@@ -22,124 +22,42 @@ mod grammar;
 mod roles;
 mod starts;
 
-// What reading a table gives: where its parts stand, and nothing at fault; or the refusal, and then the table is empty.
-#[derive(Clone, Copy)]
-pub struct Reading {
-    pub table: Table,
-    pub fault: Fault,
-}
-
-#[derive(Clone, Copy)]
-pub enum Fault {
-    Nothing,
-    Refused(Refusal),
-}
-
-// A word with the index of the next one, or a refusal.
-#[derive(Clone, Copy)]
-pub enum Next {
-    Word(i32, Cursor),
-    Refused(Refusal),
-}
-
-// A word that has passed its tests, without its sign, with the index of the next one; or a refusal.
-#[derive(Clone, Copy)]
-pub enum Got {
-    Number(usize, Cursor),
-    Refused(Refusal),
-}
-
-// The index past a part of the table, or the first refusal in it.
-#[derive(Clone, Copy)]
-pub enum Part {
-    Past(Cursor),
-    Refused(Refusal),
-}
-
-// The section of the aggregates: their number, where each begins, and the index past them or the first refusal.
+// The section of the aggregates: their number, where each begins, and the index past them.
 #[derive(Clone, Copy)]
 pub struct Places {
     pub number: usize,
     pub starts: [u16; Table::AGGREGATES],
-    pub end: Part,
+    pub end: Cursor,
 }
 
-// The reading of a table that ends in `end` before its last rule: no table.
-fn unread(end: Part) -> Reading
-    ensures { result ≡ unread_part end }
+// The section of the rules, whose count stands past the aggregates, and the end of the table.
+fn finish(t: &[i32], atoms: usize, places: Places) -> Result<Table, Refusal>
+    ensures { result ≡ finished atoms places.number places.starts places.end (run (rules atoms places.number) places.end (drop places.end t.now)) }
 {
-    let starts = [0u16; Table::AGGREGATES];
-    let table = Table {
-        atoms: 0,
-        aggregates: 0,
-        rules: 0,
-        first: 0,
-        starts,
-    };
-    match end {
-        Part::Past(_) => Reading {
-            table,
-            fault: Fault::Nothing,
-        },
-        Part::Refused(r) => Reading {
-            table,
-            fault: Fault::Refused(r),
-        },
-    }
-}
-
-// The section of the rules, whose count stands at `i`, and the end of the table.
-fn finish(
-    t: &[i32],
-    i: Cursor,
-    atoms: usize,
-    aggregates: usize,
-    starts: [u16; Table::AGGREGATES],
-) -> Reading
-    ensures { result ≡ finished atoms aggregates starts i (run (rules atoms aggregates) i (drop i t.now)) }
-{
-    let c = count_at(t, i, Table::RULES);
-    let Got::Number(number, first) = c else {
-        return unread(passed(c));
-    };
-    let p = rules_at(t, first, number, atoms, aggregates);
-    let Part::Past(end) = p else {
-        return unread(p);
-    };
+    let (number, first) = count_at(t, places.end, Table::RULES)?;
+    let end = rules_at(t, first, number, atoms, places.number)?;
     if end < t.len() {
-        return unread(Part::Refused(Refusal::Trailing(end)));
+        return Err(Refusal::Trailing(end));
     }
-    let table = Table {
+    let starts = places.starts;
+    Ok(Table {
         atoms,
-        aggregates,
+        aggregates: places.number,
         rules: number,
         first,
         starts,
-    };
-    Reading {
-        table,
-        fault: Fault::Nothing,
-    }
+    })
 }
 
 // The table's places, or exactly the refusal of 1 to 7 that 01 gives.
-pub fn read(words: &[i32]) -> Reading
+pub fn read(words: &[i32]) -> Result<Table, Refusal>
     ensures { result ≡ reading_of words.now }
 {
     if Table::WORDS < words.len() {
-        return unread(Part::Refused(Refusal::TooManyWords));
+        return Err(Refusal::TooManyWords);
     }
     let start = Table::start();
-    let n = count_at(words, start, Table::ATOMS);
-    let Got::Number(atoms, next) = n else {
-        return unread(passed(n));
-    };
-    let places = aggregates_at(words, next, atoms);
-    let end = places.end;
-    let Part::Past(past) = end else {
-        return unread(end);
-    };
-    let number = places.number;
-    let starts = places.starts;
-    finish(words, past, atoms, number, starts)
+    let (atoms, next) = count_at(words, start, Table::ATOMS)?;
+    let places = aggregates_at(words, next, atoms)?;
+    finish(words, atoms, places)
 }

@@ -5,76 +5,79 @@ ghost use Rattle.table.specs.Roles.{count, quantity, member, run};
 ghost use Rattle.table.specs.Grammar.{one};
 ghost use Rattle.table.specs.Places.{word_of, got_of};
 
-use crate::{Got, Next};
 use layout::Cursor;
 use results::Refusal;
 
 // The word at `i` with the next index; "a needed word is absent" where there is none.
-pub fn word_at(t: &[i32], i: Cursor) -> Next
+pub fn word_at(t: &[i32], i: Cursor) -> Result<(i32, Cursor), Refusal>
     ensures { result ≡ word_of i (drop i t.now) }
 {
-    if i < t.len() {
-        let next = i + 1;
-        return Next::Word(t[i], next);
+    match t.get(i) {
+        Some(w) => Ok((*w, i + 1)),
+        None => Err(Refusal::Absent(i)),
     }
-    Next::Refused(Refusal::Absent(i))
 }
 
 // A count of 0 to `most` at `i`.
-pub fn count_at(t: &[i32], i: Cursor, most: usize) -> Got
+pub fn count_at(t: &[i32], i: Cursor, most: usize) -> Result<(usize, Cursor), Refusal>
     ensures { result ≡ got_of (run (one (count most)) i (drop i t.now)) }
 {
-    let Next::Word(w, next) = word_at(t, i) else {
-        return Got::Refused(Refusal::Absent(i));
+    let Ok((w, next)) = word_at(t, i) else {
+        return Err(Refusal::Absent(i));
     };
-    if words::below(w) {
-        return Got::Refused(Refusal::Count(i));
+    if w < 0 {
+        return Err(Refusal::Count(i));
     }
     let n = words::size(w);
     if most < n {
-        return Got::Refused(Refusal::Count(i));
+        return Err(Refusal::Count(i));
     }
-    Got::Number(n, next)
+    Ok((n, next))
 }
 
 // A function, comparison, threshold or value of `low` to `high` at `i`.
-pub fn quantity_at(t: &[i32], i: Cursor, low: i32, high: i32) -> Got
+pub fn quantity_at(t: &[i32], i: Cursor, low: i32, high: i32) -> Result<(usize, Cursor), Refusal>
     ensures { result ≡ got_of (run (one (quantity low high)) i (drop i t.now)) }
 {
-    let Next::Word(w, next) = word_at(t, i) else {
-        return Got::Refused(Refusal::Absent(i));
+    let Ok((w, next)) = word_at(t, i) else {
+        return Err(Refusal::Absent(i));
     };
     if w < low {
-        return Got::Refused(Refusal::Quantity(i));
+        return Err(Refusal::Quantity(i));
     }
     if high < w {
-        return Got::Refused(Refusal::Quantity(i));
+        return Err(Refusal::Quantity(i));
     }
     let n = words::size(w);
-    Got::Number(n, next)
+    Ok((n, next))
 }
 
 // A member at `i` of a list whose previous number is `previous`: an atom, or where `signed` an aggregate literal. Its range is tested before
 // the ascent.
-pub fn member_at(t: &[i32], i: Cursor, signed: bool, top: usize, previous: usize) -> Got
+pub fn member_at(
+    t: &[i32],
+    i: Cursor,
+    signed: bool,
+    top: usize,
+    previous: usize,
+) -> Result<(usize, Cursor), Refusal>
     ensures { result ≡ got_of (run (one (member signed top previous)) i (drop i t.now)) }
 {
-    let Next::Word(w, next) = word_at(t, i) else {
-        return Got::Refused(Refusal::Absent(i));
+    let Ok((w, next)) = word_at(t, i) else {
+        return Err(Refusal::Absent(i));
     };
-    let barred = words::below(w) & !signed;
-    if barred {
-        return Got::Refused(Refusal::Number(i));
+    if w < 0 && !signed {
+        return Err(Refusal::Number(i));
     }
     let n = words::size(w);
     if n == 0 {
-        return Got::Refused(Refusal::Number(i));
+        return Err(Refusal::Number(i));
     }
     if top < n {
-        return Got::Refused(Refusal::Number(i));
+        return Err(Refusal::Number(i));
     }
     if n <= previous {
-        return Got::Refused(Refusal::Descent(i));
+        return Err(Refusal::Descent(i));
     }
-    Got::Number(n, next)
+    Ok((n, next))
 }

@@ -12,8 +12,7 @@ use lib.Dec.{ltb}
 use lib.IntN.{ℤ}
 use lib.ListN.{length, take, drop, length-append}
 use Rattle.results.specs.declared.Refusal.{Refusal}
-use Rattle.text.specs.declared.reader.Reading.{Reading}
-use Rattle.text.specs.declared.reader.Reading.TheVariants as reading
+use Rattle.std.specs.Prelude.{Result, Ok, Err}
 use Rattle.text.specs.Text.{parting, ended, runs_from, runs, limit, word, Words, all, bad_at, words_from, Text, text, refused, with_limit, with_words, text_of_runs, text_of, over, reading_of, words_left, ReadAs}
 use Rattle.text.proofs.Scanning.{runs_parted, runs_longer, runs_none}
 use Rattle.text.proofs.Reading.{words_good, words_bad, words_none, is_all, text_long, text_short}
@@ -100,11 +99,15 @@ pub record Front (bs : List ℕ) (l n : ℕ) (old new : List ℤ) : Type 0 where
   pub rest : drop n new ≡ drop n old
   pub long : length (take n new) ≡ n
 
-is_read_lem : (t : Text) (l n : ℕ) → reading_of t ≡ reading.Read l n → (zs : List ℤ) × (t ≡ text l zs) × (length zs ≡ n)
-is_read_lem (text m zs) l n e = (zs, cc, cc)
+is_read_lem : (t : Text) (l n : ℕ) → reading_of t ≡ Ok (l, n) → (zs : List ℤ) × (t ≡ text l zs) × (length zs ≡ n)
+is_read_lem (text m zs) l n e =
+    let p : ◌≡◌ {A = ℕ × ℕ} (m, length zs) (l, n) = cc in
+    let a : m ≡ l = ap (λ (q : ℕ × ℕ). q.0) p in
+    let b : length zs ≡ n = ap (λ (q : ℕ × ℕ). q.1) p in
+    (zs, cc, b)
 is_read_lem (refused r) l n e = absurd (let q : ◌≡◌ {A = ℕ} 0 1 = cc in omega arith)
 
-is_refused_lem : (t : Text) (r : Refusal) → reading_of t ≡ reading.Refused r → t ≡ refused r
+is_refused_lem : (t : Text) (r : Refusal) → reading_of t ≡ Err r → t ≡ refused r
 is_refused_lem (text m zs) r e = cc
 is_refused_lem (refused q) r e = cc
 
@@ -116,19 +119,19 @@ front_of bs old new l n zs h e f g =
     let m : length new ≡ length old = ap length g ∙ over_long zs old in
     record { said = rw t e; few = omega arith; room = omega arith; rest = d; long = ap length t ∙ f }
 
-pub read_front : (bs : List ℕ) (old new : List ℤ) (l n : ℕ) → length old ≡ 32768 → ReadAs bs old (reading.Read l n) new → Front bs l n old new
+pub read_front : (bs : List ℕ) (old new : List ℤ) (l n : ℕ) → length old ≡ 32768 → ReadAs bs old (Ok (l, n)) new → Front bs l n old new
 read_front bs old new l n h a =
     let w = is_read_lem (text_of bs) l n (sym a.result) in
     front_of bs old new l n w.0 h w.1 w.2 (a.words ∙ ap (λ (t : Text). words_left t old) w.1)
 
-pub read_refused : (bs : List ℕ) (old new : List ℤ) (r : Refusal) → ReadAs bs old (reading.Refused r) new → (text_of bs ≡ refused r) × (new ≡ old)
+pub read_refused : (bs : List ℕ) (old new : List ℤ) (r : Refusal) → ReadAs bs old (Err r) new → (text_of bs ≡ refused r) × (new ≡ old)
 read_refused bs old new r a =
     let e = is_refused_lem (text_of bs) r (sym a.result) in
     (e, a.words ∙ ap (λ (t : Text). words_left t old) e)
 
 -- ---- one result, one buffer
 
-pub read_unique : (bs : List ℕ) (old : List ℤ) (r s : Reading) (new other : List ℤ) → ReadAs bs old r new → ReadAs bs old s other → (r ≡ s) × (new ≡ other)
+pub read_unique : (bs : List ℕ) (old : List ℤ) (r s : Result (ℕ × ℕ) Refusal) (new other : List ℤ) → ReadAs bs old r new → ReadAs bs old s other → (r ≡ s) × (new ≡ other)
 read_unique bs old r s new other a b = (a.result ∙ sym b.result, a.words ∙ sym b.words)
 
 -- the buffer keeps its length
@@ -136,5 +139,5 @@ left_long : (t : Text) (old : List ℤ) → length (words_left t old) ≡ length
 left_long (text l zs) old = over_long zs old
 left_long (refused r) old = refl
 
-pub read_long : (bs : List ℕ) (old new : List ℤ) (r : Reading) → ReadAs bs old r new → length new ≡ length old
+pub read_long : (bs : List ℕ) (old new : List ℤ) (r : Result (ℕ × ℕ) Refusal) → ReadAs bs old r new → length new ≡ length old
 read_long bs old new r a = ap length a.words ∙ left_long (text_of bs) old

@@ -9,12 +9,11 @@ use borrow.Author.Tests.{eq-eqb, ne_eqb, lt-ltb, le-ltb}
 use lib.Dec.{eqb}
 use lib.ListN.{length, take, get_or, length-append, length-take}
 use lib.Seq.{take-suc, length-take-le}
-use Rattle.results.specs.Results.{number_of, place_of}
 use Rattle.results.specs.declared.Refusal.{Refusal}
 use Rattle.results.specs.declared.Solved.{Solved}
-use Rattle.results.specs.declared.Solved.TheVariants as solved
+use Rattle.std.specs.Prelude.{Result}
 use Rattle.text.specs.Text.{pick}
-use Rattle.text.specs.Line.{decimal, pair, atom, atoms_from, answer_word, refused_word, line, answer_line, line_of, PrintAs}
+use Rattle.text.specs.Line.{decimal, pair, atom, atoms_from, answer_word, line, answer_line, line_of, PrintAs}
 use Rattle.text.specs.Putting.{Put}
 use Rattle.text.proofs.Decimal.{decimal_length}
 use Rattle.text.proofs.Putting.{put_length, put_whole}
@@ -104,23 +103,20 @@ answer_short c s n plan h =
 
 -- ---- the contract of `print`
 
-pub print_short : (r : Solved) (n : ℕ) (plan old : List ℕ) → length old < 1100 → PrintAs r n plan old 0 old
+pub print_short : (r : Result Solved Refusal) (n : ℕ) (plan old : List ℕ) → length old < 1100 → PrintAs r n plan old 0 old
 print_short r n plan old h = record { result = rw (lt-ltb (length old) 1100 h); out = rw (lt-ltb (length old) 1100 h) }
 
-pub print_whole : (r : Solved) (n : ℕ) (plan old new : List ℕ) (wrote : ℕ) → 1100 ≤ length old → Put old 0 (line_of r n plan) wrote new → length (line_of r n plan) ≤ 1100 → PrintAs r n plan old wrote new
+pub print_whole : (r : Result Solved Refusal) (n : ℕ) (plan old new : List ℕ) (wrote : ℕ) → 1100 ≤ length old → Put old 0 (line_of r n plan) wrote new → length (line_of r n plan) ≤ 1100 → PrintAs r n plan old wrote new
 print_whole r n plan old new wrote h p k =
     record {
       result = rw (le-ltb (length old) 1100 h) (put_length old new (line_of r n plan) wrote p (omega arith));
       out = rw (le-ltb (length old) 1100 h) (put_whole old new (line_of r n plan) wrote p (omega arith));
     }
 
-pub print_refused : (r : Refusal) (n : ℕ) (plan old new : List ℕ) (wrote number place : ℕ) → number ≡ number_of r → place ≡ place_of r
-    → 1100 ≤ length old → Put old 0 (line refused_word number place) wrote new → length (line refused_word number place) ≤ length refused_word + 42 → PrintAs (solved.Refused r) n plan old wrote new
-print_refused r n plan old new wrote number place e f h p k =
-    let q : Put old 0 (line_of (solved.Refused r) n plan) wrote new = rw (← e, ← f) p in
-    let l : length (line_of (solved.Refused r) n plan) ≤ length refused_word + 42 = rw (← e, ← f) k in
-    print_whole (solved.Refused r) n plan old new wrote h q (omega arith)
+-- the same with the line as it was put
+pub print_as : (r : Result Solved Refusal) (n : ℕ) (plan old new l : List ℕ) (wrote : ℕ) → line_of r n plan ≡ l → 1100 ≤ length old → Put old 0 l wrote new → length l ≤ 1100 → PrintAs r n plan old wrote new
+print_as r n plan old new l wrote e h p k = print_whole r n plan old new wrote h (rw e p) (rw e k)
 
 -- one result, one buffer
-pub print_unique : (r : Solved) (n : ℕ) (plan old new other : List ℕ) (wrote too : ℕ) → PrintAs r n plan old wrote new → PrintAs r n plan old too other → (wrote ≡ too) × (new ≡ other)
+pub print_unique : (r : Result Solved Refusal) (n : ℕ) (plan old new other : List ℕ) (wrote too : ℕ) → PrintAs r n plan old wrote new → PrintAs r n plan old too other → (wrote ≡ too) × (new ≡ other)
 print_unique r n plan old new other wrote too a b = (a.result ∙ sym b.result, a.out ∙ sym b.out)

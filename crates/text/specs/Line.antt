@@ -5,8 +5,9 @@
 --   line_of r n plan    the line of a result, where the table has n atoms; a newline ends it
 --   PrintAs            the contract of `print`: how much it wrote, and what the buffer holds after it
 -- Assumes nothing.
-use Rattle.std.specs.Prelude.{◌≡◌, Bool, true, false, List, [], ◌∷◌, ◌++◌, ℕ, zero, suc, ◌+◌, ◌/◌, ◌%◌, min, eqb, ltb, length, take, drop}
+use Rattle.std.specs.Prelude.{◌≡◌, Bool, true, false, List, [], ◌∷◌, ◌++◌, ℕ, zero, suc, ◌+◌, ◌/◌, ◌%◌, min, eqb, ltb, length, take, drop, Result, Ok, Err}
 use Rattle.results.specs.Results.{number_of, place_of}
+use Rattle.results.specs.declared.Refusal.{Refusal}
 use Rattle.results.specs.declared.Solved.{Solved}
 use Rattle.results.specs.declared.Solved.TheVariants as solved
 use Rattle.text.specs.Text.{pick}
@@ -55,17 +56,17 @@ line word m n = pair word m n ++ 10 ∷ []
 abbrev pub answer_line : ℕ → ℕ → ℕ → List ℕ → List ℕ
 answer_line c s n plan = pair answer_word c s ++ 58 ∷ atoms_from 1 (take (min n 256) plan) ++ 10 ∷ []
 
-abbrev pub line_of : Solved → ℕ → List ℕ → List ℕ
-line_of (solved.Answer k) n plan = answer_line k.choices k.skips n plan
-line_of (solved.Nothing k) n plan = line none_word k.choices k.skips
-line_of (solved.Limit k) n plan = line limit_word k.choices k.skips
-line_of (solved.Refused r) n plan = line refused_word (number_of r) (place_of r)
+abbrev pub line_of : Result Solved Refusal → ℕ → List ℕ → List ℕ
+line_of (Ok (solved.Answer k)) n plan = answer_line k.choices k.skips n plan
+line_of (Ok (solved.Nothing k)) n plan = line none_word k.choices k.skips
+line_of (Ok (solved.Limit k)) n plan = line limit_word k.choices k.skips
+line_of (Err r) n plan = line refused_word (number_of r) (place_of r)
 
 -- ---- "returns how much it wrote and keeps the rest of the buffer". Any line fits into 1,100 bytes; to a shorter buffer nothing is written
 
 abbrev pub short : List ℕ → Bool
 short old = ltb (length old) 1100
 
-pub record PrintAs (r : Solved) (n : ℕ) (plan old : List ℕ) (wrote : ℕ) (new : List ℕ) : Type 0 where
+pub record PrintAs (r : Result Solved Refusal) (n : ℕ) (plan old : List ℕ) (wrote : ℕ) (new : List ℕ) : Type 0 where
   pub result : wrote ≡ pick (short old) 0 (length (line_of r n plan))
   pub out : new ≡ pick (short old) old (line_of r n plan ++ drop (length (line_of r n plan)) old)

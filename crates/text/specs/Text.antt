@@ -7,12 +7,10 @@
 --   text_of bs       the limit and the words; or refusal 13; or refusal 12 with the first bad number, from 0
 --   ReadAs          the contract of `read`: what it returns of that, and what it leaves in the buffer of words
 -- Assumes nothing.
-use Rattle.std.specs.Prelude.{◌≡◌, Bool, true, false, ◌&&◌, ◌||◌, List, [], ◌∷◌, ◌++◌, ℕ, suc, ◌+◌, ◌*◌, ◌-◌, eqb, leb, ltb, ℤ, pos, negsuc, neg_ℤ, length}
+use Rattle.std.specs.Prelude.{◌≡◌, Bool, true, false, ◌&&◌, ◌||◌, List, [], ◌∷◌, ◌++◌, ℕ, suc, ◌+◌, ◌*◌, ◌-◌, eqb, leb, ltb, ℤ, pos, negsuc, neg_ℤ, length, Result, Ok, Err}
 use Rattle.std.proofs.Math.Option.{Option, some, none}
 use Rattle.results.specs.declared.Refusal.{Refusal}
 use Rattle.results.specs.declared.Refusal.TheVariants.{BadNumber, TooManyBytes}
-use Rattle.text.specs.declared.reader.Reading.{Reading}
-use Rattle.text.specs.declared.reader.Reading.TheVariants as reading
 
 abbrev pub pick : {A : Type 0} → Bool → A → A → A
 pick true a b = a
@@ -119,9 +117,9 @@ text_of bs = elim (ltb 65536 (length bs)) [ true ↦ refused TooManyBytes | fals
 
 -- ---- what `read` returns, and what it leaves in the buffer: the words in place of its first ones and the rest kept, or all of it kept
 
-abbrev pub reading_of : Text → Reading
-reading_of (text l zs) = reading.Read l (length zs)
-reading_of (refused r) = reading.Refused r
+abbrev pub reading_of : Text → Result (ℕ × ℕ) Refusal
+reading_of (text l zs) = Ok (l, length zs)
+reading_of (refused r) = Err r
 
 -- words laid over the front of a buffer; there is room for all (`proofs/Callers.antt`, `words_few`)
 abbrev pub over : List ℤ → List ℤ → List ℤ
@@ -134,6 +132,6 @@ words_left (text l zs) old = over zs old
 words_left (refused r) old = old
 
 -- the contract of `read`: its result, and the buffer of words after it
-pub record ReadAs (bs : List ℕ) (old : List ℤ) (r : Reading) (new : List ℤ) : Type 0 where
+pub record ReadAs (bs : List ℕ) (old : List ℤ) (r : Result (ℕ × ℕ) Refusal) (new : List ℤ) : Type 0 where
   pub result : r ≡ reading_of (text_of bs)
   pub words : new ≡ words_left (text_of bs) old

@@ -2,7 +2,7 @@
 // words from bytes, `printer::print` writes a result as a line. Meaning: `specs/Text.antt` and `specs/Line.antt`.
 #![tactic(auto)]
 
-mod number;
+pub mod number;
 pub mod printer;
 pub mod reader;
 pub mod scan;

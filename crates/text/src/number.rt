@@ -1,126 +1,44 @@
 // The number that a run writes: "one or more digits after at most one minus". The value decides, and not how long the run is.
-ghost use Rattle.std.specs.Prelude.{◌≡◌, ◌+◌, ◌*◌, ◌-◌, ◌≤◌, min, eqb, pos, neg_ℤ, drop, get_or};
+ghost use Rattle.std.specs.Prelude.{◌≡◌};
 ghost use Rattle.text.specs.Text as T;
-ghost use Rattle.text.specs.Scan.{capped, limit_in, word_in};
+ghost use Rattle.text.specs.Scan.{held, limit_in, word_in};
 
-// The value of some digits, or that they are none.
-#[derive(Clone, Copy)]
-pub enum Digits {
-    Value(u64),
-    Bad,
-}
-
-// The limit that a run writes.
-#[derive(Clone, Copy)]
-pub enum Limit {
-    Good(u32),
-    Bad,
-}
-
-// The word that a run writes.
-#[derive(Clone, Copy)]
-pub enum Word {
-    Good(i32),
-    Bad,
-}
-
-// Values stay here that are above: 2 to the 32, which is good neither as a limit nor as a word.
-const CAP: u64 = 4294967296;
-
-// One digit more.
-fn add_digit(value: u64, b: u8) -> u64
-    requires { (value ≤ 4294967296) × (48 ≤ b) × (b ≤ 57) }
-    ensures { result ≡ min (value * 10 + (b - 48)) 4294967296 }
+// The value of some digits, if they are some and nothing else. Values above 2 to the 64 less 1 stay there.
+pub fn digits_of(run: &[u8]) -> Option<u64>
+    ensures { result ≡ held (T.digits run.now) }
 {
-    let next = value * 10 + (b - 48) as u64;
-    if CAP < next {
-        return CAP;
-    }
-    next
-}
-
-// The value of the digits from index `from` on.
-fn digits_from(run: &[u8], from: usize) -> Digits
-    ensures { result ≡ capped (T.digits (drop from run.now)) }
-{
-    if run.len() <= from {
-        return Digits::Bad;
+    if run.is_empty() {
+        return None;
     }
     let mut value: u64 = 0;
-    let mut i = from;
-    while i < run.len() {
-        let b = run[i];
-        if b < 48 {
-            return Digits::Bad;
+    for b in run {
+        if !b.is_ascii_digit() {
+            return None;
         }
-        if 57 < b {
-            return Digits::Bad;
-        }
-        value = add_digit(value, b);
-        i += 1;
+        value = value
+            .saturating_mul(10)
+            .saturating_add(u64::from(*b - b'0'));
     }
-    Digits::Value(value)
-}
-
-// Whether the run begins with a minus.
-fn minus(run: &[u8]) -> bool
-    ensures { result ≡ eqb (get_or run.now 0 0) 45 }
-{
-    if run.len() == 0 {
-        return false;
-    }
-    run[0] == 45
-}
-
-// The number below 0 of this size.
-fn below_zero(size: u64) -> i32
-    requires { size ≤ 2147483648 }
-    ensures { result ≡ neg_ℤ (pos size) }
-{
-    let x = 0 - size as i64;
-    x as i32
+    Some(value)
 }
 
 // A limit: 0 to 4,294,967,295; `-0` is a good 0.
-pub fn limit_of(run: &[u8]) -> Limit
+pub fn limit_of(run: &[u8]) -> Option<u32>
     ensures { result ≡ limit_in (T.limit run.now) }
 {
-    if minus(run) {
-        let Digits::Value(size) = digits_from(run, 1) else {
-            return Limit::Bad;
-        };
-        if size == 0 {
-            return Limit::Good(0);
-        }
-        return Limit::Bad;
+    if let Some(digits) = run.strip_prefix(b"-") {
+        return (digits_of(digits)? == 0).then_some(0);
     }
-    let Digits::Value(value) = digits_from(run, 0) else {
-        return Limit::Bad;
-    };
-    if 4294967295 < value {
-        return Limit::Bad;
-    }
-    Limit::Good(value as u32)
+    u32::try_from(digits_of(run)?).ok()
 }
 
 // A word: a number of signed 32 bits.
-pub fn word_of(run: &[u8]) -> Word
+pub fn word_of(run: &[u8]) -> Option<i32>
     ensures { result ≡ word_in (T.word run.now) }
 {
-    if minus(run) {
-        let Digits::Value(size) = digits_from(run, 1) else {
-            return Word::Bad;
-        };
-        if 2147483648 < size {
-            return Word::Bad;
-        }
-        return Word::Good(below_zero(size));
+    if let Some(digits) = run.strip_prefix(b"-") {
+        let size = i64::try_from(digits_of(digits)?).ok()?;
+        return i32::try_from(-size).ok();
     }
-    let Digits::Value(value) = digits_from(run, 0) else {
-        return Word::Bad;
-    };
-    if 2147483647 < value {
-        return Word::Bad;
-    }
-    Word::Good(value as i32)
+    i32::try_from(digits_of(run)?).ok()
 }

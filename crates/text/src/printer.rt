@@ -3,9 +3,10 @@ ghost use Rattle.std.specs.Prelude.{◌≡◌, [], ◌∷◌, ◌++◌, ◌+◌,
 ghost use Rattle.text.specs.Line.{decimal, pair, line, answer_line, atom, atoms_from, PrintAs};
 ghost use Rattle.text.specs.Putting.{Put};
 
-use results::{Solved, number, place};
+use results::{Refusal, Solved};
 
 // One byte at index `at`; the index after it.
+// Stays: `bytes_out` has the same writers, whose index goes on past the end to find a text's length; here it stops, as `Put` of `specs/Putting.antt` has it.
 fn put_byte(b: u8, at: usize, out: &mut [u8]) -> usize
     requires { at ≤ length out.old }
     ensures { Put out.old at (b ∷ []) result out.new }
@@ -23,10 +24,8 @@ fn put(text: &[u8], at: usize, out: &mut [u8]) -> usize
     ensures { Put out.old at text.now result out.new }
 {
     let mut to = at;
-    let mut i: usize = 0;
-    while i < text.len() {
-        to = put_byte(text[i], to, out);
-        i += 1;
+    for b in text {
+        to = put_byte(*b, to, out);
     }
     to
 }
@@ -35,7 +34,7 @@ fn put(text: &[u8], at: usize, out: &mut [u8]) -> usize
 fn last_digit(n: u64) -> u8
     ensures { result ≡ 48 + n % 10 }
 {
-    (n % 10) as u8 + 48
+    b'0' + (n % 10) as u8
 }
 
 // A number in decimal digits: those before the last, and the last.
@@ -57,7 +56,7 @@ fn put_pair(word: &[u8], first: u64, second: u64, out: &mut [u8]) -> usize
 {
     let after_word = put(word, 0, out);
     let after_first = put_number(first, after_word, out);
-    let after_space = put_byte(32, after_first, out);
+    let after_space = put_byte(b' ', after_first, out);
     put_number(second, after_space, out)
 }
 
@@ -67,20 +66,10 @@ fn put_atom(p: usize, b: u8, at: usize, out: &mut [u8]) -> usize
     ensures { Put out.old at (atom p b) result out.new }
 {
     if b == 1 {
-        let after_space = put_byte(32, at, out);
+        let after_space = put_byte(b' ', at, out);
         return put_number(p as u64, after_space, out);
     }
     at
-}
-
-// The lesser of two numbers.
-fn least(a: usize, b: usize) -> usize
-    ensures { result ≡ min a b }
-{
-    if a < b {
-        return a;
-    }
-    b
 }
 
 // The true atoms among the first `atoms`, of which there are at most 256.
@@ -88,13 +77,10 @@ fn put_atoms(atoms: usize, plan: &[u8], at: usize, out: &mut [u8]) -> usize
     requires { at ≤ length out.old }
     ensures { Put out.old at (atoms_from 1 (take (min atoms 256) plan.now)) result out.new }
 {
-    let top = least(least(atoms, 256), plan.len());
+    let shown = &plan[..atoms.min(256).min(plan.len())];
     let mut to = at;
-    let mut i: usize = 0;
-    while i < top {
-        let p = i + 1;
-        to = put_atom(p, plan[i], to, out);
-        i += 1;
+    for (i, b) in shown.iter().enumerate() {
+        to = put_atom(i + 1, *b, to, out);
     }
     to
 }
@@ -105,7 +91,7 @@ fn put_line(word: &[u8], first: u64, second: u64, out: &mut [u8]) -> usize
     ensures second_in_bounds { length (line word.now first second) ≤ length word.now + 42 }
 {
     let after_pair = put_pair(word, first, second, out);
-    put_byte(10, after_pair, out)
+    put_byte(b'\n', after_pair, out)
 }
 
 // The line of an answer.
@@ -114,39 +100,40 @@ fn put_answer(choices: u64, skips: u64, atoms: usize, plan: &[u8], out: &mut [u8
     ensures plan_len_bound { length (answer_line choices skips atoms plan.now) ≤ 1100 }
 {
     let after_pair = put_pair(b"answer ", choices, skips, out);
-    let after_colon = put_byte(58, after_pair, out);
+    let after_colon = put_byte(b':', after_pair, out);
     let after_atoms = put_atoms(atoms, plan, after_colon, out);
-    put_byte(10, after_atoms, out)
+    put_byte(b'\n', after_atoms, out)
 }
 
 // The line of a result, at the front of a buffer of at least 1,100 bytes, into which any line fits: how much was written. The rest of the buffer
 // is kept; to a shorter one nothing is written. `plan` holds the answer's plan, of `atoms` atoms.
-pub fn print(solved: Solved, atoms: usize, plan: &[u8], out: &mut [u8]) -> usize
-    ensures { PrintAs solved atoms plan.now out.old result out.new }
+pub fn print(solved: Result<Solved, Refusal>, atoms: usize, plan: &[u8], out: &mut [u8]) -> usize
+    ensures line { PrintAs solved atoms plan.now out.old result out.new }
+    ensures room { result ≤ length out.new }
 {
     if out.len() < 1100 {
         return 0;
     }
     match solved {
-        Solved::Answer(counts) => put_answer(
-            counts.choices as u64,
-            counts.skips as u64,
+        Ok(Solved::Answer(counts)) => put_answer(
+            u64::from(counts.choices),
+            u64::from(counts.skips),
             atoms,
             plan,
             out,
         ),
-        Solved::Nothing(counts) => put_line(
+        Ok(Solved::Nothing(counts)) => put_line(
             b"none ",
-            counts.choices as u64,
-            counts.skips as u64,
+            u64::from(counts.choices),
+            u64::from(counts.skips),
             out,
         ),
-        Solved::Limit(counts) => put_line(
+        Ok(Solved::Limit(counts)) => put_line(
             b"limit ",
-            counts.choices as u64,
-            counts.skips as u64,
+            u64::from(counts.choices),
+            u64::from(counts.skips),
             out,
         ),
-        Solved::Refused(r) => put_line(b"refused ", number(r) as u64, place(r) as u64, out),
+        Err(r) => put_line(b"refused ", u64::from(r.number()), r.place() as u64, out),
     }
 }

@@ -1,29 +1,15 @@
 // Reading a text: a first pass judges every number, and only a good text is written to the words' buffer, by a second pass.
-ghost use Rattle.std.specs.Prelude.{◌≡◌, ◌≤◌, drop, length};
+ghost use Rattle.std.specs.Prelude.{◌≡◌, ◌≤◌, drop, length, IfOk};
 ghost use Rattle.std.proofs.lemmas.List.Edits.{sets};
 ghost use Rattle.text.specs.Text.{runs, words_from, ReadAs};
 ghost use Rattle.text.specs.Scan.{count_of, listed};
 
-use crate::number::{Limit, Word, limit_of, word_of};
+use crate::number::{limit_of, word_of};
 use crate::scan::{run_end, run_start};
 use results::Refusal;
 
-// How many words there are, or which number is the first bad one.
-#[derive(Clone, Copy)]
-pub enum Count {
-    Words(usize),
-    Bad(usize),
-}
-
-// What a text says: the limit and how many words were written; or a refusal, 13 or 12.
-#[derive(Clone, Copy)]
-pub enum Reading {
-    Read(u32, usize),
-    Refused(Refusal),
-}
-
-// The number of words from `from` on; the first of them is number 1 of the text.
-fn count_words(bytes: &[u8], from: usize) -> Count
+// How many words there are from `from` on, or which number is the first bad one; the first of them is number 1 of the text.
+fn count_words(bytes: &[u8], from: usize) -> Result<usize, usize>
     requires { from ≤ length bytes.now }
     ensures { result ≡ count_of 0 (words_from 1 (runs (drop from bytes.now))) }
 {
@@ -31,14 +17,13 @@ fn count_words(bytes: &[u8], from: usize) -> Count
     let mut at = run_start(bytes, from);
     while at < bytes.len() {
         let end = run_end(bytes, at);
-        let Word::Good(_) = word_of(&bytes[at..end]) else {
-            let bad = n + 1;
-            return Count::Bad(bad);
-        };
+        if word_of(&bytes[at..end]).is_none() {
+            return Err(n + 1);
+        }
         n += 1;
         at = run_start(bytes, end);
     }
-    Count::Words(n)
+    Ok(n)
 }
 
 // The words from `from` on, up to the first bad one, to the front of the buffer.
@@ -50,7 +35,7 @@ fn write_words(bytes: &[u8], from: usize, words: &mut [i32; 32768])
     let mut at = run_start(bytes, from);
     while at < bytes.len() {
         let end = run_end(bytes, at);
-        let Word::Good(word) = word_of(&bytes[at..end]) else {
+        let Some(word) = word_of(&bytes[at..end]) else {
             return;
         };
         words[n] = word;
@@ -61,23 +46,17 @@ fn write_words(bytes: &[u8], from: usize, words: &mut [i32; 32768])
 
 // The limit and the words of a text. The words come to the front of the buffer and the rest of it is kept; a refusal keeps all of it. A text of
 // 65,536 bytes has at most 32,768 numbers, so there is always room.
-pub fn read(bytes: &[u8], words: &mut [i32; 32768]) -> Reading
-    ensures { ReadAs bytes.now words.old result words.new }
+pub fn read(bytes: &[u8], words: &mut [i32; 32768]) -> Result<(u32, usize), Refusal>
+    ensures reading { ReadAs bytes.now words.old result words.new }
+    ensures room { IfOk result (λ found. found.1 ≤ length words.new) }
 {
     if 65536 < bytes.len() {
-        return Reading::Refused(Refusal::TooManyBytes);
+        return Err(Refusal::TooManyBytes);
     }
     let at = run_start(bytes, 0);
     let end = run_end(bytes, at);
-    let Limit::Good(limit) = limit_of(&bytes[at..end]) else {
-        return Reading::Refused(Refusal::BadNumber(0));
-    };
-    let count = count_words(bytes, end);
-    match count {
-        Count::Bad(k) => Reading::Refused(Refusal::BadNumber(k)),
-        Count::Words(n) => {
-            write_words(bytes, end, words);
-            Reading::Read(limit, n)
-        }
-    }
+    let limit = limit_of(&bytes[at..end]).ok_or(Refusal::BadNumber(0))?;
+    let count = count_words(bytes, end).map_err(Refusal::BadNumber)?;
+    write_words(bytes, end, words);
+    Ok((limit, count))
 }

@@ -6,36 +6,29 @@ ghost use Rattle.text.specs.Scan.{skipped, spanned};
 fn parts(b: u8) -> bool
     ensures { result ≡ parting b }
 {
-    if b == 32 {
-        return true;
-    }
-    b == 10
+    b == b' ' || b == b'\n'
 }
 
 // The index of the first byte of a run, from `from` on; or the end.
 pub fn run_start(bytes: &[u8], from: usize) -> usize
     ensures { result ≡ from + skipped (drop from bytes.now) }
 {
-    let mut i = from;
-    while i < bytes.len() {
+    for i in from..bytes.len() {
         if !parts(bytes[i]) {
             return i;
         }
-        i += 1;
     }
-    i
+    from.max(bytes.len())
 }
 
 // The index past the run that begins at `from`.
 pub fn run_end(bytes: &[u8], from: usize) -> usize
     ensures { result ≡ from + spanned (drop from bytes.now) }
 {
-    let mut i = from;
-    while i < bytes.len() {
+    for i in from..bytes.len() {
         if parts(bytes[i]) {
             return i;
         }
-        i += 1;
     }
-    i
+    from.max(bytes.len())
 }

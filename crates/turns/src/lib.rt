@@ -6,7 +6,6 @@ ghost use Rattle.std.specs.Prelude.{◌≡◌, ◌-◌, ◌≤◌, max, ltb};
 ghost use Rattle.levels.specs.View.{row};
 ghost use Rattle.interpretation.specs.State.{lowest, true_atoms, AllDefined};
 ghost use Rattle.interpretation.specs.View.{choices, valued};
-ghost use Rattle.layout.specs.Layout.{Laid};
 ghost use Rattle.heads.specs.Heads.{Listed, taking};
 ghost use Rattle.smaller.specs.Cyclic.{test_by};
 ghost use Rattle.second_search.specs.Looking.{tested_of};
@@ -14,8 +13,7 @@ ghost use Rattle.turns.specs.Turns.{turn_of, blamed, ChosenIn, back_of};
 
 use foundation::Candidates;
 use heads::Lists;
-use interpretation::Choice;
-use layout::Table;
+use layout::Accepted;
 use outcome::Outcome;
 use second_search::Tested;
 
@@ -29,6 +27,7 @@ pub enum Turn {
 }
 
 // Where a conflict leads, with the skips that it adds: to the end, or back to a level, whose choice atom becomes false.
+// Stays: both cases hold skips, and neither is an error or nothing.
 #[derive(Clone, Copy)]
 pub enum Back {
     End(u32),
@@ -39,27 +38,26 @@ pub enum Back {
 pub fn greater(a: u32, b: u32) -> u32
     ensures { result ≡ max a b }
 {
-    if a < b { b } else { a }
+    a.max(b)
 }
 
 // The final test of a total interpretation, with so many choices left: foundedness, which spends none; or, where the call takes head cycles, the second search over the rules of list 0. Constraints add no atom: for foundedness all rules are as good.
 pub fn test(
-    t: &[i32],
-    tb: Table,
+    t: &Accepted,
     cycles: bool,
     lists: &Lists,
     values: &[u8; 256],
     left: u32,
     candidates: &mut Candidates,
 ) -> Tested
-    requires { Laid t.now tb × Listed t.now tb lists.now × AllDefined tb.atoms (valued values.now) }
-    ensures { tested_of result ≡ test_by cycles (taking t.now lists.now) tb.atoms left (true_atoms tb.atoms (valued values.now)) }
+    requires { Listed t.now.words.now t.now.places lists.now × AllDefined t.now.places.atoms (valued values.now) }
+    ensures { tested_of result ≡ test_by cycles (taking t.now.words.now lists.now) t.now.places.atoms left (true_atoms t.now.places.atoms (valued values.now)) }
 {
     if cycles {
         let places = heads::list(lists, 0);
-        return second_search::look(t, tb, places, values, left);
+        return second_search::look(t, places, values, left);
     }
-    if foundation::founded_by(t, tb, values, candidates) {
+    if foundation::founded_by(t, values, candidates) {
         return Tested::Passed(0);
     }
     Tested::Failed(0)
@@ -67,8 +65,7 @@ pub fn test(
 
 // What is to be done after a propagation. The limit is tested only where a choice would be opened.
 pub fn decide(
-    t: &[i32],
-    tb: Table,
+    t: &Accepted,
     cycles: bool,
     lists: &Lists,
     out: Outcome,
@@ -77,24 +74,23 @@ pub fn decide(
     limit: u32,
     candidates: &mut Candidates,
 ) -> Turn
-    requires { Laid t.now tb × Listed t.now tb lists.now × (choices ≤ limit) }
-    ensures { result ≡ turn_of (limit - choices) out (lowest (valued values.now) tb.atoms) (test_by cycles (taking t.now lists.now) tb.atoms (limit - choices) (true_atoms tb.atoms (valued values.now))) (ltb choices limit) }
+    requires { Listed t.now.words.now t.now.places lists.now × (choices ≤ limit) }
+    ensures { result ≡ turn_of (limit - choices) out (lowest (valued values.now) t.now.places.atoms) (test_by cycles (taking t.now.words.now lists.now) t.now.places.atoms (limit - choices) (true_atoms t.now.places.atoms (valued values.now))) (ltb choices limit) }
 {
     match out {
         Outcome::Conflict => Turn::Conflict(0),
         Outcome::Settled => {
-            let n = tb.atoms;
-            let c = second_search::lowest_undefined(values, n);
-            match c {
-                Choice::Atom(p) => {
+            let n = t.places.atoms;
+            match interpretation::lowest_undefined(values, n) {
+                Some(p) => {
                     if choices < limit {
                         return Turn::Choose(p);
                     }
                     Turn::Limit(0)
                 }
-                Choice::Nothing => {
+                None => {
                     let left = limit - choices;
-                    let tested = test(t, tb, cycles, lists, values, left, candidates);
+                    let tested = test(t, cycles, lists, values, left, candidates);
                     match tested {
                         Tested::Passed(spent) => Turn::Answer(spent),
                         Tested::Failed(spent) => Turn::Conflict(spent),
@@ -118,6 +114,7 @@ pub fn blame(out: Outcome, why: [u64; 4], k: usize) -> [u64; 4]
 }
 
 // Where a conflict with the reason `why` leads, k levels being present: to the highest level in it, or to the end.
+// Stays: 0 is no level, as `highest` of crate `levels` has it, whose meaning may not change.
 pub fn go_back(chosen: &[u16; 256], k: usize, why: [u64; 4]) -> Back
     requires { (k ≤ 256) × ChosenIn (choices chosen.now k) k }
     ensures { result ≡ back_of (choices chosen.now k) (row why) k }

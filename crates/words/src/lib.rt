@@ -1,26 +1,14 @@
 // Words of the table as numbers on their own.
 #![tactic(auto)]
 
-ghost use Rattle.std.specs.Prelude.{◌≡◌, not, T, nat_abs, pos, length, get_or, ◌<◌};
+ghost use Rattle.std.specs.Prelude.{◌≡◌, T, nat_abs, pos, length, get_or, ◌<◌};
 ghost use Rattle.std.specs.Int.Signed.{non_neg};
 
 // The number without its sign: the one place where a signed word becomes an unsigned one.
 pub fn size(w: i32) -> usize
     ensures { result ≡ nat_abs w }
 {
-    let x = w as i64;
-    if x < 0 {
-        let m = 0 - x;
-        return m as usize;
-    }
-    x as usize
-}
-
-// Whether a word is below 0.
-pub fn below(w: i32) -> bool
-    ensures { result ≡ not (non_neg w) }
-{
-    w < 0
+    w.unsigned_abs() as usize
 }
 
 // The number at an index of a list, without its sign.

@@ -8,13 +8,13 @@ use Rattle.aspif_aggregates.proofs.Used.{used_on, used_all, used_none}
 use Rattle.aspif_aggregates.proofs.put_all_used.Goals as goal
 
 pub loop-j-init : goal.loop-j-init
-loop-j-init c = (omega arith, refl, rw (← used_all c.args.t.now c.args.tb) (left_start (omega arith) (omega arith)))
+loop-j-init c = (omega arith, refl, rw (← used_all c.args.t.now.words.now c.args.t.now.places) (left_start (omega arith) (omega arith)))
 
 pub loop-j-preserved : goal.loop-j-preserved
 loop-j-preserved c =
-    let low : c.loop-j.j < c.args.tb.aggregates = let e = c.loop-j.invariant.1 in omega arith in
-    let begins : c.start-begin.result ≡ start_from c.args.t.now 2 c.loop-j.j = c.start-begin.ensures ∙ c.requires.0.starts c.loop-j.j (low) in
-    let step = used_on c.args.t.now c.args.tb c.args.news.now c.requires.1 c.loop-j.j c.args.tb.aggregates (low) refl in (
+    let low : c.loop-j.j < c.args.t.now.places.aggregates = let e = c.loop-j.invariant.1 in omega arith in
+    let begins : c.start-begin.result ≡ start_from c.args.t.now.words.now 2 c.loop-j.j = c.start-begin.ensures ∙ c.args.t.now.laid.starts c.loop-j.j (low) in
+    let step = used_on c.args.t.now.words.now c.args.t.now.places c.args.news.now c.requires c.loop-j.j c.args.t.now.places.aggregates (low) refl in (
       omega arith,
       c.loop-j.invariant.1,
       left_step refl (left_step step c.loop-j.invariant.2 (rw (begins) at c.put_used-between.ensures)) (rw (begins) at c.put_used-to.ensures),
@@ -22,4 +22,4 @@ loop-j-preserved c =
 
 pub returns : goal.returns
 returns c =
-    left_done (used_none c.args.t.now c.args.tb c.loop-j.j c.args.tb.aggregates c.loop-j-test.false) c.loop-j.invariant.2
+    left_done (used_none c.args.t.now.words.now c.args.t.now.places c.loop-j.j c.args.t.now.places.aggregates c.loop-j-test.false) c.loop-j.invariant.2

@@ -9,8 +9,5 @@ use Rattle.aspif_aggregates.proofs.put_all_used.Given as goal
 
 abbrev pub invariant-loop-j : goal.invariant-loop-j
 invariant-loop-j l =
-    (l.j ≤ l.n) × (l.n ≡ l.tb.aggregates)
-    × Left l.initial.out l.at (lines_text (defining_all (held_by l.t l.tb) (used (held_by l.t l.tb)))) l.out l.to (lines_text (defining_all (held_by l.t l.tb) (used_from (held_by l.t l.tb).rules l.j (l.n - l.j))))
-
-abbrev pub decreases-loop-j : goal.decreases-loop-j
-decreases-loop-j l = l.n - l.j
+    (l.j ≤ l.n) × (l.n ≡ l.t.places.aggregates)
+    × Left l.initial.out l.at (lines_text (defining_all (held_by l.t.words.now l.t.places) (used (held_by l.t.words.now l.t.places)))) l.out l.to (lines_text (defining_all (held_by l.t.words.now l.t.places) (used_from (held_by l.t.words.now l.t.places).rules l.j (l.n - l.j))))

@@ -1,6 +1,6 @@
 -- `aspif_rules::put_atoms` meets its contract. The invariant of its loop: to lay the atoms left from here is to lay all from the start. Assumes nothing.
 use mathlib.Core.List.{map}
-use Prim.Native.Nat.{◌-◌, ◌≤◌}
+use Prim.Native.Nat.{◌≤◌}
 use lib.ListN.{length, drop}
 use Rattle.layout.specs.Layout.{atoms}
 use Rattle.aspif.specs.Writing.{with}
@@ -11,6 +11,3 @@ use Rattle.aspif_rules.proofs.put_atoms.Given as goal
 abbrev pub invariant-loop-i : goal.invariant-loop-i
 invariant-loop-i l =
     (l.i ≤ length l.l) × Left l.initial.out l.at (literals_text (map (with l.plain) (atoms l.l))) l.out l.to (literals_text (map (with l.plain) (atoms (drop l.i l.l))))
-
-abbrev pub decreases-loop-i : goal.decreases-loop-i
-decreases-loop-i l = length l.l - l.i

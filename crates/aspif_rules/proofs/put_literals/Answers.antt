@@ -8,8 +8,8 @@ use Rattle.aspif_rules.proofs.put_literals.Goals as goal
 
 pub loop-i-preserved : goal.loop-i-preserved
 loop-i-preserved c =
-    (omega arith, left_step (stated_on (stated_literal (held_by c.args.t.now c.args.tb)) c.args.l.now c.loop-i.i c.loop-i-test.true) c.loop-i.invariant.1 c.put_literal-to.ensures)
+    (omega arith, left_step (stated_on (stated_literal (held_by c.args.t.now.words.now c.args.t.now.places)) c.args.l.now c.loop-i.i c.loop-i-test.true) c.loop-i.invariant.1 c.put_literal-to.ensures)
 
 pub returns : goal.returns
 returns c =
-    left_done (stated_none (stated_literal (held_by c.args.t.now c.args.tb)) c.args.l.now c.loop-i.i c.loop-i-test.false) c.loop-i.invariant.1
+    left_done (stated_none (stated_literal (held_by c.args.t.now.words.now c.args.t.now.places)) c.args.l.now c.loop-i.i c.loop-i-test.false) c.loop-i.invariant.1

@@ -2,6 +2,7 @@
 use mathlib.Core.List.{map}
 use lib.IntN.{ℤ}
 use Rattle.meaning.specs.Lists.{Is}
+use Prim.Native.Nat.{◌-◌}
 use Rattle.layout.specs.Layout.{RulesLie}
 use Rattle.aspif.specs.Writing.{uses, stated}
 use Rattle.bytes_out.proofs.Laws.{Left}
@@ -9,11 +10,8 @@ use Rattle.aspif_parts.specs.Held.{numbered_from, held_by}
 use Rattle.aspif_parts.specs.Parts.{lines_text}
 use Rattle.aspif_rules.proofs.put_rules.Given as goal
 
-abbrev pub invariant-loop-left : goal.invariant-loop-left
-invariant-loop-left l =
-    RulesLie l.tb.atoms l.tb.aggregates l.t l.rule l.left
-    × ((w : ℤ) → Is (uses (numbered_from l.t l.rule l.left) w) → Is (uses (held_by l.t l.tb).rules w))
-    × Left l.initial.out l.at (lines_text (map (stated (held_by l.t l.tb)) (numbered_from l.t l.initial.rule l.initial.left))) l.out l.to (lines_text (map (stated (held_by l.t l.tb)) (numbered_from l.t l.rule l.left)))
-
-abbrev pub decreases-loop-left : goal.decreases-loop-left
-decreases-loop-left l = l.left
+abbrev pub invariant-loop : goal.invariant-loop
+invariant-loop l =
+    RulesLie l.t.places.atoms l.t.places.aggregates l.t.words.now l.rule (l.t.places.rules - l.counter)
+    × ((w : ℤ) → Is (uses (numbered_from l.t.words.now l.rule (l.t.places.rules - l.counter)) w) → Is (uses (held_by l.t.words.now l.t.places).rules w))
+    × Left l.initial.out l.at (lines_text (map (stated (held_by l.t.words.now l.t.places)) (numbered_from l.t.words.now l.initial.rule l.t.places.rules))) l.out l.to (lines_text (map (stated (held_by l.t.words.now l.t.places)) (numbered_from l.t.words.now l.rule (l.t.places.rules - l.counter))))

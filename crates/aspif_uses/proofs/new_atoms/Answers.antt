@@ -4,4 +4,4 @@ use Rattle.aspif_uses.proofs.new_atoms.Goals as goal
 
 pub returns : goal.returns
 returns c =
-    rw (c.numbered.ensures, c.marked-marks.ensures) (new_atoms_are c.args.t.now c.args.tb c.requires)
+    rw (c.numbered.ensures, c.marked-marks.ensures) (new_atoms_are c.args.t.now.words.now c.args.t.now.places c.args.t.now.laid)

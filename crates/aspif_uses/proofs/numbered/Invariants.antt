@@ -1,7 +1,7 @@
 -- `aspif_uses::numbered` meets its contract. The invariant of its loop: the places passed have their numbers, and those left get the free ones from `next` on. Assumes nothing.
 use mathlib.Core.Path.{◌≡◌}
 use mathlib.Core.List.{◌++◌}
-use Prim.Native.Nat.{suc, ◌+◌, ◌-◌, ◌≤◌}
+use Prim.Native.Nat.{suc, ◌+◌, ◌≤◌}
 use lib.ListN.{length, take, drop}
 use Rattle.aspif_parts.specs.Uses.{numbered_by}
 use Rattle.aspif_uses.proofs.numbered.Given as goal
@@ -9,6 +9,3 @@ use Rattle.aspif_uses.proofs.numbered.Given as goal
 abbrev pub invariant-loop-i : goal.invariant-loop-i
 invariant-loop-i l =
     (l.i ≤ 128) × (length l.marks ≡ 128) × (l.next ≤ l.n + 1 + l.i) × (take l.i l.marks ++ numbered_by l.next (drop l.i l.marks) ≡ numbered_by (suc l.n) l.initial.marks)
-
-abbrev pub decreases-loop-i : goal.decreases-loop-i
-decreases-loop-i l = 128 - l.i

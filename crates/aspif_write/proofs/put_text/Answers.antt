@@ -5,4 +5,4 @@ use Rattle.aspif_write.proofs.put_text.Goals as goal
 
 pub returns : goal.returns
 returns c =
-    rw (← text_is c.args.t.now c.args.tb) (put_then c.put-after_header.ensures (put_then c.put_rules-after_rules.ensures (put_then c.put_all_used-after_used.ensures c.put.ensures)))
+    rw (← text_is c.args.t.now.words.now c.args.t.now.places) (put_then c.put-after_header.ensures (put_then c.put_rules-after_rules.ensures (put_then c.put_all_used-after_used.ensures c.put.ensures)))

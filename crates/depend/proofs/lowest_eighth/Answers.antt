@@ -1,9 +1,9 @@
 -- `depend::lowest_eighth` meets its contract. Assumes nothing.
 use mathlib.Core.Path.{sym, ap, ◌∙◌}
 use mathlib.Core.Bool.{Bool}
-use Prim.Native.Nat.{suc}
+use Prim.Native.Nat.{ℕ, suc}
+use Rattle.std.specs.Prelude.{Option}
 use Rattle.layout.specs.Layout.{program_of}
-use Rattle.depend.specs.declared.Place.{Place}
 use Rattle.depend.specs.Cycles.{lowest, head_cycle_by}
 use Rattle.depend.proofs.Exact.{nowhere}
 use mathlib.Core.List.{List}
@@ -12,11 +12,11 @@ use Rattle.layout.specs.declared.Table.{Table}
 use Rattle.depend.proofs.lowest_eighth.Goals as goal
 
 -- the lowest rule by the mode
-abbrev by : List ℤ → Table → Bool → Place
+abbrev by : List ℤ → Table → Bool → Option ℕ
 by t tb cycles = let P = program_of t tb in lowest (head_cycle_by cycles (suc tb.atoms) P) 1 P
 
 pub returns-then-cycles : goal.returns-then-cycles
-returns-then-cycles c = sym (nowhere 1 (program_of c.args.t.now c.args.tb)) ∙ ap (by c.args.t.now c.args.tb) (sym c.if-cycles.true)
+returns-then-cycles c = sym (nowhere 1 (program_of c.args.t.now.words.now c.args.t.now.places)) ∙ ap (by c.args.t.now.words.now c.args.t.now.places) (sym c.if-cycles.true)
 
 pub returns : goal.returns
-returns c = c.lowest_head.ensures ∙ ap (by c.args.t.now c.args.tb) (sym c.if-cycles.false)
+returns c = c.lowest_of.ensures ∙ ap (by c.args.t.now.words.now c.args.t.now.places) (sym c.if-cycles.false)

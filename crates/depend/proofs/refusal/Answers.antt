@@ -1,32 +1,22 @@
 -- `depend::refusal` meets its contract. The two questions in their order. Assumes nothing.
-use mathlib.Core.Path.{◌≡◌, sym, ap, ◌∙◌}
-use Prim.Native.Nat.{suc}
+use mathlib.Core.Path.{ap, ◌∙◌}
+use Prim.Native.Nat.{ℕ, suc}
+use Rattle.std.specs.Prelude.{Option}
 use Rattle.meaning.specs.Cycles.{aggregate_cycle}
 use Rattle.layout.specs.Layout.{program_of}
-use Rattle.depend.specs.declared.Place.{Place}
 use Rattle.depend.specs.Cycles.{lowest, eighth, ninth, cycle_by}
 use Rattle.depend.proofs.refusal.Goals as goal
 
-pub returns-in-At : goal.returns-in-At
+pub returns-in-Some : goal.returns-in-Some
 unfolding cycle_by
-returns-in-At c =
-    let head-place : let a = c.args in let P = program_of a.t.now a.tb in
-    cycle_by a.cycles a.tb.atoms P ≡ eighth c.lowest_eighth-head.result (ninth (lowest (aggregate_cycle (suc a.tb.atoms) P) 1 P)) =
+returns-in-Some c =
     let a = c.args in
-    let P = program_of a.t.now a.tb in
-    ap (λ (p : Place). eighth p (ninth (lowest (aggregate_cycle (suc a.tb.atoms) P) 1 P))) (sym c.lowest_eighth-head.ensures) in
-    let a = c.args in
-    let P = program_of a.t.now a.tb in
-    sym (head-place ∙ ap (λ (p : Place). eighth p (ninth (lowest (aggregate_cycle (suc a.tb.atoms) P) 1 P))) c.in-At.is)
+    let P = program_of a.t.now.words.now a.t.now.places in
+    ap (λ (p : Option ℕ). eighth p (ninth (lowest (aggregate_cycle (suc a.t.now.places.atoms) P) 1 P))) c.in-Some.ensures
 
-pub returns-in-Nowhere : goal.returns-in-Nowhere
+pub returns-in-None : goal.returns-in-None
 unfolding cycle_by
-returns-in-Nowhere c =
-    let head-place : let a = c.args in let P = program_of a.t.now a.tb in
-    cycle_by a.cycles a.tb.atoms P ≡ eighth c.lowest_eighth-head.result (ninth (lowest (aggregate_cycle (suc a.tb.atoms) P) 1 P)) =
+returns-in-None c =
     let a = c.args in
-    let P = program_of a.t.now a.tb in
-    ap (λ (p : Place). eighth p (ninth (lowest (aggregate_cycle (suc a.tb.atoms) P) 1 P))) (sym c.lowest_eighth-head.ensures) in
-    let a = c.args in
-    let P = program_of a.t.now a.tb in
-    sym (head-place ∙ ap (λ (p : Place). eighth p (ninth (lowest (aggregate_cycle (suc a.tb.atoms) P) 1 P))) c.in-Nowhere.is ∙ sym c.ninth.ensures)
+    let P = program_of a.t.now.words.now a.t.now.places in
+    c.ninth.ensures ∙ ap (λ (p : Option ℕ). eighth p (ninth (lowest (aggregate_cycle (suc a.t.now.places.atoms) P) 1 P))) c.in-None.ensures

@@ -1,5 +1,5 @@
 -- `explaining::collect` meets its contract. The invariant of its loop: the words that stand in the array, and those of the rules to come, are those of all
--- rules. The measure is the number of rules to come. Assumes nothing.
+-- rules. Assumes nothing.
 use mathlib.Core.Path.{◌≡◌, sym, ap, subst, ◌∙◌}
 use mathlib.Core.List.{List, ◌∷◌, ◌++◌}
 use Prim.Native.Nat.{ℕ, ◌+◌, ◌-◌, ◌<◌}
@@ -16,49 +16,52 @@ use Rattle.explaining.proofs.collect.Goals as goal
 
 pub code-requires : goal.code-requires
 code-requires c =
-    let lies : let tb = c.args.tb in
-    RuleLies tb.atoms tb.aggregates (c.args.t.now) c.loop-left.at × RulesLie tb.atoms tb.aggregates (c.args.t.now) (past_rule (c.args.t.now) c.loop-left.at) (c.loop-left.left - 1) =
-    let tb = c.args.tb in
-    lies_on (c.args.t.now) c.loop-left.at tb.atoms tb.aggregates c.loop-left.left c.loop-left-test.true c.loop-left.invariant.2 in
-    (c.requires.0, (lies).0)
+    let a = valued c.args.values.now in
+    let t = c.args.t.now.words.now in
+    let tb = c.args.t.now.places in
+    let k = c.loop-k.k in
+    let left : 0 < tb.rules - k = omega arith in
+    let lies : RuleLies tb.atoms tb.aggregates t c.loop-k.at × RulesLie tb.atoms tb.aggregates t (past_rule t c.loop-k.at) (tb.rules - k - 1) =
+    lies_on t c.loop-k.at tb.atoms tb.aggregates (tb.rules - k) left c.loop-k.invariant.1 in
+    lies.0
 
 pub past_rule-at-requires : goal.past_rule-at-requires
 past_rule-at-requires c =
-    let lies : let tb = c.args.tb in
-    RuleLies tb.atoms tb.aggregates (c.args.t.now) c.loop-left.at × RulesLie tb.atoms tb.aggregates (c.args.t.now) (past_rule (c.args.t.now) c.loop-left.at) (c.loop-left.left - 1) =
-    let tb = c.args.tb in
-    lies_on (c.args.t.now) c.loop-left.at tb.atoms tb.aggregates c.loop-left.left c.loop-left-test.true c.loop-left.invariant.2 in
-    (lies).0.aggs.fits
+    let a = valued c.args.values.now in
+    let t = c.args.t.now.words.now in
+    let tb = c.args.t.now.places in
+    let k = c.loop-k.k in
+    let left : 0 < tb.rules - k = omega arith in
+    let lies : RuleLies tb.atoms tb.aggregates t c.loop-k.at × RulesLie tb.atoms tb.aggregates t (past_rule t c.loop-k.at) (tb.rules - k - 1) =
+    lies_on t c.loop-k.at tb.atoms tb.aggregates (tb.rules - k) left c.loop-k.invariant.1 in
+    lies.0.aggs.fits
 
-pub loop-left-preserved : goal.loop-left-preserved
-loop-left-preserved c =
-    let lies : let tb = c.args.tb in
-    RuleLies tb.atoms tb.aggregates (c.args.t.now) c.loop-left.at × RulesLie tb.atoms tb.aggregates (c.args.t.now) (past_rule (c.args.t.now) c.loop-left.at) (c.loop-left.left - 1) =
-    let tb = c.args.tb in
-    lies_on (c.args.t.now) c.loop-left.at tb.atoms tb.aggregates c.loop-left.left c.loop-left-test.true c.loop-left.invariant.2 in
-    let room : c.loop-left.k < length c.loop-left.list =
-    omega (arith, c.loop-left-test.true, c.loop-left.invariant.0, c.loop-left.invariant.1, c.requires.0.few_rules) in
-    let tb = c.args.tb in
-    let t = (c.args.t.now) in
-    let at = c.loop-left.at in
-    let k = c.loop-left.k in
-    let n = c.loop-left.left - 1 in
+pub loop-k-preserved : goal.loop-k-preserved
+loop-k-preserved c =
+    let a = valued c.args.values.now in
+    let t = c.args.t.now.words.now in
+    let tb = c.args.t.now.places in
+    let k = c.loop-k.k in
+    let left : 0 < tb.rules - k = omega arith in
+    let lies : RuleLies tb.atoms tb.aggregates t c.loop-k.at × RulesLie tb.atoms tb.aggregates t (past_rule t c.loop-k.at) (tb.rules - k - 1) =
+    lies_on t c.loop-k.at tb.atoms tb.aggregates (tb.rules - k) left c.loop-k.invariant.1 in
+    let room : k < length c.loop-k.list = omega (arith, c.loop-k-test.true, c.loop-k.invariant.0, c.args.t.now.laid.few_rules) in
+    let n = tb.rules - k - 1 in
     let x = c.code.result in
-    let later = codes_from (valued c.args.values.now) t (past_rule t at) n in
-    let e = codes_on (valued c.args.values.now) t at c.loop-left.left c.loop-left-test.true in (
-      omega (arith, c.loop-left.invariant.0, c.loop-left-test.true),
-      length-set c.loop-left.list k x ∙ c.loop-left.invariant.1,
-      subst (λ (j : ℕ). RulesLie tb.atoms tb.aggregates t j n) (sym c.past_rule-at.ensures) (lies).1,
-      ap (λ (j : ℕ). take (k + 1) (set c.loop-left.list k x) ++ codes_from (valued c.args.values.now) t j n) c.past_rule-at.ensures
-          ∙ grown c.loop-left.list k x later (codes_from (valued c.args.values.now) t tb.first tb.rules) (room)
-          (ap (λ (y : ℕ). take k c.loop-left.list ++ y ∷ later) c.code.ensures ∙ ap (λ (m : List ℕ). take k c.loop-left.list ++ m) (sym e) ∙ c.loop-left.invariant.3),
-    )
+    let all = codes_from a t tb.first tb.rules in
+    let later = codes_from a t (past_rule t c.loop-k.at) n in
+    let e = codes_on a t c.loop-k.at (tb.rules - k) left in
+    let s : n ≡ tb.rules - (k + 1) = omega arith in
+    let on : RulesLie tb.atoms tb.aggregates t c.past_rule-at.result (tb.rules - (k + 1)) = rw (sym s, c.past_rule-at.ensures) lies.1 in
+    let same : take (k + 1) (set c.loop-k.list k x) ++ later ≡ all =
+    grown c.loop-k.list k x later all room (ap (λ (y : ℕ). take k c.loop-k.list ++ y ∷ later) c.code.ensures ∙ ap (λ (m : List ℕ). take k c.loop-k.list ++ m) (sym e) ∙ c.loop-k.invariant.2) in
+    (length-set c.loop-k.list k x ∙ c.loop-k.invariant.0, on, rw (sym s, c.past_rule-at.ensures) same)
 
 pub returns : goal.returns
 returns c =
-    let tb = c.args.tb in
-    let all = codes_from (valued c.args.values.now) (c.args.t.now) tb.first tb.rules in
-    let e : c.loop-left.k ≡ tb.rules = omega (arith, c.loop-left.invariant.0, c.loop-left-test.false) in
-    subst (λ (n : ℕ). Stands all c.loop-left.list n) e
-    (stands_i c.loop-left.list c.loop-left.k (codes_from (valued c.args.values.now) (c.args.t.now) c.loop-left.at c.loop-left.left) all c.loop-left.invariant.1 (omega (arith, e, c.requires.0.few_rules)) c.loop-left.invariant.3
-    (codes_none (valued c.args.values.now) (c.args.t.now) c.loop-left.at c.loop-left.left c.loop-left-test.false))
+    let tb = c.args.t.now.places in
+    let all = codes_from (valued c.args.values.now) c.args.t.now.words.now tb.first tb.rules in
+    let e : c.loop-k.k ≡ tb.rules = omega arith in
+    subst (λ (n : ℕ). Stands all c.loop-k.list n) e
+    (stands_i c.loop-k.list c.loop-k.k (codes_from (valued c.args.values.now) c.args.t.now.words.now c.loop-k.at (tb.rules - c.loop-k.k)) all c.loop-k.invariant.0 (omega (arith, e, c.args.t.now.laid.few_rules)) c.loop-k.invariant.2
+    (codes_none (valued c.args.values.now) c.args.t.now.words.now c.loop-k.at (tb.rules - c.loop-k.k) (omega arith)))

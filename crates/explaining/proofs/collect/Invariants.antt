@@ -1,18 +1,15 @@
 -- `explaining::collect` meets its contract. The invariant of its loop: the words that stand in the array, and those of the rules to come, are those of all
--- rules. The measure is the number of rules to come. Assumes nothing.
+-- rules. Assumes nothing.
 use mathlib.Core.Path.{◌≡◌}
 use mathlib.Core.List.{◌++◌}
-use Prim.Native.Nat.{◌+◌}
+use Prim.Native.Nat.{◌-◌}
 use lib.ListN.{length, take}
 use Rattle.interpretation.specs.View.{valued}
 use Rattle.layout.specs.Layout.{RulesLie}
 use Rattle.explaining.specs.Walk.{codes_from}
 use Rattle.explaining.proofs.collect.Given as goal
 
-abbrev pub invariant-loop-left : goal.invariant-loop-left
-invariant-loop-left l =
-    (l.k + l.left ≡ l.tb.rules) × (length l.list ≡ 1024) × RulesLie l.tb.atoms l.tb.aggregates l.t l.at l.left
-    × (take l.k l.list ++ codes_from (valued l.values) l.t l.at l.left ≡ codes_from (valued l.values) l.t l.tb.first l.tb.rules)
-
-abbrev pub decreases-loop-left : goal.decreases-loop-left
-decreases-loop-left l = l.left
+abbrev pub invariant-loop-k : goal.invariant-loop-k
+invariant-loop-k l =
+    (length l.list ≡ 1024) × RulesLie l.t.places.atoms l.t.places.aggregates l.t.words.now l.at (l.t.places.rules - l.k)
+    × (take l.k l.list ++ codes_from (valued l.values) l.t.words.now l.at (l.t.places.rules - l.k) ≡ codes_from (valued l.values) l.t.words.now l.t.places.first l.t.places.rules)

@@ -6,18 +6,18 @@ use lib.IntN.{ℤ}
 use Rattle.meaning.specs.Lists.{all}
 use Rattle.layout.specs.Layout.{atoms}
 use Rattle.rounds.specs.Marks.{earlier}
-use Rattle.explaining.specs.Walk.{rounds_by}
+use Rattle.rounds.specs.Rounds.{whys_in}
 use Rattle.explaining.proofs.Arrays.{due_marked, due_open}
 use Rattle.explaining.proofs.is_due.Goals as goal
 
-pub returns-then-rounds-i-ne0 : goal.returns-then-rounds-i-ne0
-returns-then-rounds-i-ne0 c =
-    let h = c.if-rounds-i-ne0.true in
-    sym (due_marked c.args.t.now c.args.round c.args.c c.args.rounds.now c.if-c-eq0.false (λ z. omega (arith, h)))
+pub returns-then-marks-i-ne0 : goal.returns-then-marks-i-ne0
+returns-then-marks-i-ne0 c =
+    let h = c.if-marks-i-ne0.true in
+    sym (due_marked c.args.t.now c.args.round c.args.c c.args.marks.now c.if-c-eq0.false (λ z. omega (arith, h)))
 
 pub returns : goal.returns
 returns c =
-    let h = c.if-rounds-i-ne0.false in
+    let h = c.if-marks-i-ne0.false in
     c.all_earlier.ensures
-    ∙ ap (λ (l : List ℤ). all (earlier (rounds_by c.args.rounds.now) c.args.round) (atoms l)) c.part-positive.ensures
-    ∙ sym (due_open c.args.t.now c.args.round c.args.c c.args.rounds.now c.if-c-eq0.false (omega (arith, h)))
+    ∙ ap (λ (l : List ℤ). all (earlier (whys_in c.args.marks.now) c.args.round) (atoms l)) c.part-positive.ensures
+    ∙ sym (due_open c.args.t.now c.args.round c.args.c c.args.marks.now c.if-c-eq0.false (omega (arith, h)))

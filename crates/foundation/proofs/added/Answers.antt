@@ -22,44 +22,44 @@ use Rattle.foundation.proofs.Words.{marked_none}
 use Rattle.foundation.proofs.Walks.{Between, between_start, between_fits, between_on, between_end, left_fewer}
 use Rattle.foundation.proofs.added.Goals as goal
 
-pub walk-w-requires : goal.walk-w-requires
-walk-w-requires c =
+pub walk-left-requires : goal.walk-left-requires
+walk-left-requires c =
     let a = valued c.args.values.now in
-    let P = program_of c.args.t.now c.args.tb in
-    let A : AtomsIn c.args.tb.atoms P = atoms_in_lem c.args.t.now c.args.tb c.requires.0 in
-    let B : Between c.args.tb.atoms a c.requires.1 P A c.args.t.now (marked c.loop-number.marks) (take c.loop-number.number c.loop-number.list) =
-    c.loop-number.invariant.2 c.args.tb.atoms c.requires.1 P A
-    (subst (Between c.args.tb.atoms a c.requires.1 P A c.args.t.now _) (sym c.collect-number.ensures.same)
-    (between_start c.args.t.now c.args.tb c.requires.0 a c.requires.1 _ (marked_none 256))) in
-    (between_fits c.args.tb.atoms a c.requires.1 P A c.args.t.now (marked c.loop-number.marks) (take c.loop-number.number c.loop-number.list) B, c.loop-number.invariant.0, c.loop-number.invariant.1)
+    let P = program_of c.args.t.now.words.now c.args.t.now.places in
+    let A : AtomsIn c.args.t.now.places.atoms P = atoms_in_lem c.args.t.now.words.now c.args.t.now.places c.args.t.now.laid in
+    let B : Between c.args.t.now.places.atoms a c.requires P A c.args.t.now.words.now (marked c.loop-number.marks) (take c.loop-number.number c.loop-number.list) =
+    c.loop-number.invariant.2 c.args.t.now.places.atoms c.requires P A
+    (subst (Between c.args.t.now.places.atoms a c.requires P A c.args.t.now.words.now _) (sym c.collect-number.ensures.same)
+    (between_start c.args.t.now.words.now c.args.t.now.places c.args.t.now.laid a c.requires _ (marked_none 256))) in
+    (between_fits c.args.t.now.places.atoms a c.requires P A c.args.t.now.words.now (marked c.loop-number.marks) (take c.loop-number.number c.loop-number.list) B, c.loop-number.invariant.0, c.loop-number.invariant.1)
 
-pub returns-then-w-number : goal.returns-then-w-number
-returns-then-w-number c =
+pub returns-then-left-number : goal.returns-then-left-number
+returns-then-left-number c =
     let a = valued c.args.values.now in
-    let P = program_of c.args.t.now c.args.tb in
-    let A : AtomsIn c.args.tb.atoms P = atoms_in_lem c.args.t.now c.args.tb c.requires.0 in
-    let B : Between c.args.tb.atoms a c.requires.1 P A c.args.t.now (marked c.loop-number.marks) (take c.loop-number.number c.loop-number.list) =
-    c.loop-number.invariant.2 c.args.tb.atoms c.requires.1 P A
-    (subst (Between c.args.tb.atoms a c.requires.1 P A c.args.t.now _) (sym c.collect-number.ensures.same)
-    (between_start c.args.t.now c.args.tb c.requires.0 a c.requires.1 _ (marked_none 256))) in
-    let X = true_atoms c.args.tb.atoms a in
-    subst (λ (H : Atoms). (p : ℕ) → Is (H p) ↔ Added P X p) (sym c.walk-w.ensures.0)
-    (between_end c.args.tb.atoms a c.requires.1 P A c.args.t.now (marked c.loop-number.marks) (take c.loop-number.number c.loop-number.list) B
-    (sym c.walk-w.ensures.1.number ∙ c.if-w-number.true ∙ sym (length-take-le c.loop-number.number c.loop-number.list (omega (arith, c.loop-number.invariant.0, c.loop-number.invariant.1)))))
+    let P = program_of c.args.t.now.words.now c.args.t.now.places in
+    let A : AtomsIn c.args.t.now.places.atoms P = atoms_in_lem c.args.t.now.words.now c.args.t.now.places c.args.t.now.laid in
+    let B : Between c.args.t.now.places.atoms a c.requires P A c.args.t.now.words.now (marked c.loop-number.marks) (take c.loop-number.number c.loop-number.list) =
+    c.loop-number.invariant.2 c.args.t.now.places.atoms c.requires P A
+    (subst (Between c.args.t.now.places.atoms a c.requires P A c.args.t.now.words.now _) (sym c.collect-number.ensures.same)
+    (between_start c.args.t.now.words.now c.args.t.now.places c.args.t.now.laid a c.requires _ (marked_none 256))) in
+    let X = true_atoms c.args.t.now.places.atoms a in
+    subst (λ (H : Atoms). (p : ℕ) → Is (H p) ↔ Added P X p) (sym c.walk-left.ensures.0)
+    (between_end c.args.t.now.places.atoms a c.requires P A c.args.t.now.words.now (marked c.loop-number.marks) (take c.loop-number.number c.loop-number.list) B
+    (sym c.walk-left.ensures.1.number ∙ c.if-left-number.true ∙ sym (length-take-le c.loop-number.number c.loop-number.list (omega (arith, c.loop-number.invariant.0, c.loop-number.invariant.1)))))
 
 pub loop-number-smaller : goal.loop-number-smaller
 loop-number-smaller c =
-    let n = c.if-w-number.false in
-    omega (arith, n, left_fewer c.args.t.now (take c.loop-number.number c.loop-number.list) (marked c.loop-number.marks), c.walk-w.ensures.1.number, (length-take-le c.loop-number.number c.loop-number.list (omega (arith, c.loop-number.invariant.0, c.loop-number.invariant.1))))
+    let n = c.if-left-number.false in
+    omega (arith, n, left_fewer c.args.t.now.words.now (take c.loop-number.number c.loop-number.list) (marked c.loop-number.marks), c.walk-left.ensures.1.number, (length-take-le c.loop-number.number c.loop-number.list (omega (arith, c.loop-number.invariant.0, c.loop-number.invariant.1))))
 
 pub loop-number-preserved : goal.loop-number-preserved
 loop-number-preserved c =
-    let t = c.args.t.now in
+    let t = c.args.t.now.words.now in
     let a = valued c.args.values.now in
-    let e = c.walk-w.ensures.1 in (
+    let e = c.walk-left.ensures.1 in (
       e.few,
       e.sized,
-      λ n D P A k. subst (λ (H : Atoms). Between n a D P A t H (take c.walk-w.result.left c.walk-w.new.list)) (sym c.walk-w.ensures.0)
+      λ n D P A k. subst (λ (H : Atoms). Between n a D P A t H (take c.walk-left.result c.walk-left.new.list)) (sym c.walk-left.ensures.0)
           (subst (λ (l : List ℕ). Between n a D P A t (walk_marks t (take c.loop-number.number c.loop-number.list) (marked c.loop-number.marks)) l) (sym e.same)
           (between_on n a D P A t (marked c.loop-number.marks) (take c.loop-number.number c.loop-number.list) (c.loop-number.invariant.2 n D P A k))),
     )

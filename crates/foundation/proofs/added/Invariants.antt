@@ -12,7 +12,7 @@ use Rattle.foundation.proofs.added.Given as goal
 
 abbrev pub invariant-loop-number : goal.invariant-loop-number
 invariant-loop-number l =
-    (l.number ≤ 1024) × (length l.list ≡ 1024) × Kept (valued l.values) l.t (marked l.initial.marks) (take l.initial.number l.initial.list) (marked l.marks) (take l.number l.list)
+    (l.number ≤ 1024) × (length l.list ≡ 1024) × Kept (valued l.values) l.t.words.now (marked l.initial.marks) (take l.initial.number l.initial.list) (marked l.marks) (take l.number l.list)
 
 abbrev pub decreases-loop-number : goal.decreases-loop-number
 decreases-loop-number l = l.number

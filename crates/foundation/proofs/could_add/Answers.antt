@@ -1,32 +1,25 @@
--- `foundation::could_add` meets its contract. Assumes nothing.
-use mathlib.Core.Path.{◌≡◌, sym, ap, ◌∙◌}
+-- `foundation::could_add` meets its contract: the only true head atom, where there is one, if the rest of the body is true. Assumes nothing.
+use mathlib.Core.Path.{sym, ap, ◌∙◌}
 use mathlib.Core.Bool.{Bool}
 use mathlib.Core.List.{List}
 use lib.IntN.{ℤ}
 use Rattle.interpretation.specs.View.{valued}
-use Rattle.layout.specs.Layout.{atoms, part_at, rule_at}
-use Rattle.foundation.specs.declared.Adds.TheVariants.{Atom}
-use Rattle.foundation.specs.Walk.{add_if, sole_of, could_of}
-use Rattle.foundation.proofs.Reading.{could_none, could_atom}
+use Rattle.layout.specs.Layout.{atoms}
+use Rattle.foundation.specs.Walk.{add_if, sole_of}
+use Rattle.foundation.proofs.Reading.{could_none, could_atom, then_if}
 use Rattle.foundation.proofs.could_add.Goals as goal
 
-pub returns-then-rest_true : goal.returns-then-rest_true
-returns-then-rest_true c =
-    let found : sole_of (valued c.args.values.now) (atoms (part_at (c.args.t.now) c.args.at)) ≡ c.sole-s.result = sym (c.sole-s.ensures ∙ ap (λ (l : List ℤ). sole_of (valued c.args.values.now) (atoms l)) c.part-head.ensures) in
-    let atom : sole_of (valued c.args.values.now) (atoms (part_at (c.args.t.now) c.args.at)) ≡ Atom c.in-Atom.p = found ∙ c.in-Atom.is in
-    let asked : could_of (valued c.args.values.now) (rule_at (c.args.t.now) c.args.at) ≡ add_if c.rest_true.result c.in-Atom.p =
-    could_atom (valued c.args.values.now) (c.args.t.now) c.args.at _ (atom) ∙ ap (λ (b : Bool). add_if b c.in-Atom.p) (sym c.rest_true.ensures) in
-    sym (asked ∙ ap (λ (b : Bool). add_if b c.in-Atom.p) c.if-rest_true.true)
+pub returns-in_err-p : goal.returns-in_err-p
+returns-in_err-p c =
+    let a = valued c.args.values.now in
+    let found = ap (λ (l : List ℤ). sole_of a (atoms l)) (sym c.part-head.ensures) in
+    c.from_residual.ensures ∙ sym (could_none a c.args.t.now.words.now c.args.at (found ∙ sym c.sole.ensures ∙ c.in_err-p.was))
 
-pub returns-in-Nothing : goal.returns-in-Nothing
-returns-in-Nothing c =
-    let found : sole_of (valued c.args.values.now) (atoms (part_at (c.args.t.now) c.args.at)) ≡ c.sole-s.result = sym (c.sole-s.ensures ∙ ap (λ (l : List ℤ). sole_of (valued c.args.values.now) (atoms l)) c.part-head.ensures) in
-    sym (could_none (valued c.args.values.now) (c.args.t.now) c.args.at (found ∙ c.in-Nothing.is))
-
-pub returns-else-rest_true : goal.returns-else-rest_true
-returns-else-rest_true c =
-    let found : sole_of (valued c.args.values.now) (atoms (part_at (c.args.t.now) c.args.at)) ≡ c.sole-s.result = sym (c.sole-s.ensures ∙ ap (λ (l : List ℤ). sole_of (valued c.args.values.now) (atoms l)) c.part-head.ensures) in
-    let atom : sole_of (valued c.args.values.now) (atoms (part_at (c.args.t.now) c.args.at)) ≡ Atom c.in-Atom.p = found ∙ c.in-Atom.is in
-    let asked : could_of (valued c.args.values.now) (rule_at (c.args.t.now) c.args.at) ≡ add_if c.rest_true.result c.in-Atom.p =
-    could_atom (valued c.args.values.now) (c.args.t.now) c.args.at _ (atom) ∙ ap (λ (b : Bool). add_if b c.in-Atom.p) (sym c.rest_true.ensures) in
-    sym (asked ∙ ap (λ (b : Bool). add_if b c.in-Atom.p) c.if-rest_true.false)
+pub returns : goal.returns
+returns c =
+    let a = valued c.args.values.now in
+    let found = ap (λ (l : List ℤ). sole_of a (atoms l)) (sym c.part-head.ensures) in
+    c.then_some.ensures
+    ∙ then_if c.rest_true.result c.in_ok-p.p
+    ∙ ap (λ (b : Bool). add_if b c.in_ok-p.p) c.rest_true.ensures
+    ∙ sym (could_atom a c.args.t.now.words.now c.args.at c.in_ok-p.p (found ∙ sym c.sole.ensures ∙ c.in_ok-p.was))

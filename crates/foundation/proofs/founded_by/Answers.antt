@@ -10,4 +10,4 @@ use Rattle.foundation.proofs.founded_by.Goals as goal
 pub returns : goal.returns
 returns c =
     c.all_covered.ensures
-    ∙ covered c.args.tb.atoms (valued c.args.values.now) c.requires.1 (program_of c.args.t.now c.args.tb) (atoms_in_lem c.args.t.now c.args.tb c.requires.0) (marked c.added-marks.result) c.added-marks.ensures
+    ∙ covered c.args.t.now.places.atoms (valued c.args.values.now) c.requires (program_of c.args.t.now.words.now c.args.t.now.places) (atoms_in_lem c.args.t.now.words.now c.args.t.now.places c.args.t.now.laid) (marked c.added-marks.result) c.added-marks.ensures

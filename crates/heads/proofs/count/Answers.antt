@@ -16,63 +16,61 @@ use Rattle.heads.proofs.count.Goals as goal
 
 pub part-head-requires : goal.part-head-requires
 part-head-requires c =
-    let read : let l = c.loop-counted in let a = c.args in
-    get_or l.lists (bounds + (a.tb.rules - (l.counted + 1))) 0 ≡ get_or (places_of a.t.now a.tb) (a.tb.rules - (l.counted + 1)) 0 =
-    let l = c.loop-counted in
+    let read : let l = c.loop-r in let a = c.args in
+    get_or l.lists (bounds + (l.r - 1)) 0 ≡ get_or (places_of a.t.now.words.now a.t.now.places) (l.r - 1) 0 =
+    let l = c.loop-r in
     let a = c.args in
-    part_word l.lists bounds a.tb.rules (a.tb.rules - (l.counted + 1)) (places_of a.t.now a.tb) l.invariant.1.places (omega (arith, c.loop-counted-test.true)) in
-    let lies : let l = c.loop-counted in let a = c.args in
-    RuleLies a.tb.atoms a.tb.aggregates a.t.now (get_or l.lists (bounds + (a.tb.rules - (l.counted + 1))) 0) =
-    let l = c.loop-counted in
+    part_word l.lists bounds a.t.now.places.rules (l.r - 1) (places_of a.t.now.words.now a.t.now.places) l.invariant.places (omega arith) in
+    let lies : let l = c.loop-r in let a = c.args in
+    RuleLies a.t.now.places.atoms a.t.now.places.aggregates a.t.now.words.now (get_or l.lists (bounds + (l.r - 1)) 0) =
+    let l = c.loop-r in
     let a = c.args in
-    subst (RuleLies a.tb.atoms a.tb.aggregates a.t.now) (sym (read))
-    (places_lie a.tb a.t.now a.tb.first a.tb.rules c.requires.0.rules_lie (a.tb.rules - (l.counted + 1))
-    (omega (arith, c.loop-counted-test.true, places_length a.t.now a.tb.first a.tb.rules))) in
+    subst (RuleLies a.t.now.places.atoms a.t.now.places.aggregates a.t.now.words.now) (sym (read))
+    (places_lie a.t.now.places a.t.now.words.now a.t.now.places.first a.t.now.places.rules c.args.t.now.laid.rules_lie (l.r - 1)
+    (omega (arith, places_length a.t.now.words.now a.t.now.places.first a.t.now.places.rules))) in
     (lies).heads.fits
 
 pub count_head-requires : goal.count_head-requires
 count_head-requires c =
-    let read : let l = c.loop-counted in let a = c.args in
-    get_or l.lists (bounds + (a.tb.rules - (l.counted + 1))) 0 ≡ get_or (places_of a.t.now a.tb) (a.tb.rules - (l.counted + 1)) 0 =
-    let l = c.loop-counted in
+    let read : let l = c.loop-r in let a = c.args in
+    get_or l.lists (bounds + (l.r - 1)) 0 ≡ get_or (places_of a.t.now.words.now a.t.now.places) (l.r - 1) 0 =
+    let l = c.loop-r in
     let a = c.args in
-    part_word l.lists bounds a.tb.rules (a.tb.rules - (l.counted + 1)) (places_of a.t.now a.tb) l.invariant.1.places (omega (arith, c.loop-counted-test.true)) in
-    let lies : let l = c.loop-counted in let a = c.args in
-    RuleLies a.tb.atoms a.tb.aggregates a.t.now (get_or l.lists (bounds + (a.tb.rules - (l.counted + 1))) 0) =
-    let l = c.loop-counted in
+    part_word l.lists bounds a.t.now.places.rules (l.r - 1) (places_of a.t.now.words.now a.t.now.places) l.invariant.places (omega arith) in
+    let lies : let l = c.loop-r in let a = c.args in
+    RuleLies a.t.now.places.atoms a.t.now.places.aggregates a.t.now.words.now (get_or l.lists (bounds + (l.r - 1)) 0) =
+    let l = c.loop-r in
     let a = c.args in
-    subst (RuleLies a.tb.atoms a.tb.aggregates a.t.now) (sym (read))
-    (places_lie a.tb a.t.now a.tb.first a.tb.rules c.requires.0.rules_lie (a.tb.rules - (l.counted + 1))
-    (omega (arith, c.loop-counted-test.true, places_length a.t.now a.tb.first a.tb.rules))) in
-    let l = c.loop-counted in
+    subst (RuleLies a.t.now.places.atoms a.t.now.places.aggregates a.t.now.words.now) (sym (read))
+    (places_lie a.t.now.places a.t.now.words.now a.t.now.places.first a.t.now.places.rules c.args.t.now.laid.rules_lie (l.r - 1)
+    (omega (arith, places_length a.t.now.words.now a.t.now.places.first a.t.now.places.rules))) in
+    let l = c.loop-r in
     let a = c.args in (
-      subst (Members 256) (sym c.part-head.ensures) (λ k h. let m = (lies).heads.members k h in (m.0, omega (arith, m.1, c.requires.0.few_atoms))),
-      l.invariant.1.sized,
-      counts_few a.t.now a.tb c.requires.0 (a.tb.rules - l.counted) l.lists l.invariant.1,
+      subst (Members 256) (sym c.part-head.ensures) (λ k h. let m = (lies).heads.members k h in (m.0, omega (arith, m.1, c.args.t.now.laid.few_atoms))),
+      l.invariant.sized,
+      counts_few a.t.now.words.now a.t.now.places c.args.t.now.laid l.r l.lists l.invariant,
     )
 
-pub loop-counted-preserved : goal.loop-counted-preserved
-loop-counted-preserved c =
-    let read : let l = c.loop-counted in let a = c.args in
-    get_or l.lists (bounds + (a.tb.rules - (l.counted + 1))) 0 ≡ get_or (places_of a.t.now a.tb) (a.tb.rules - (l.counted + 1)) 0 =
-    let l = c.loop-counted in
+pub loop-r-preserved : goal.loop-r-preserved
+loop-r-preserved c =
+    let read : let l = c.loop-r in let a = c.args in
+    get_or l.lists (bounds + (l.r - 1)) 0 ≡ get_or (places_of a.t.now.words.now a.t.now.places) (l.r - 1) 0 =
+    let l = c.loop-r in
     let a = c.args in
-    part_word l.lists bounds a.tb.rules (a.tb.rules - (l.counted + 1)) (places_of a.t.now a.tb) l.invariant.1.places (omega (arith, c.loop-counted-test.true)) in
-    let l = c.loop-counted in
+    part_word l.lists bounds a.t.now.places.rules (l.r - 1) (places_of a.t.now.words.now a.t.now.places) l.invariant.places (omega arith) in
+    let l = c.loop-r in
     let a = c.args in
-    let t = a.t.now in
-    let k = a.tb.rules - (l.counted + 1) in
-    let P = places_of t a.tb in
-    let e : a.tb.rules - l.counted ≡ k + 1 = omega (arith, c.loop-counted-test.true) in
-    let head : c.part-head.result.now ≡ part_at t (get_or P k 0) = c.part-head.ensures ∙ ap (part_at t) (read) in (
-      omega (arith, c.loop-counted-test.true),
-      counts_on t a.tb k l.lists c.count_head.new.lists (omega (arith, c.loop-counted-test.true)) (subst (λ (n : ℕ). Counts t a.tb (drop n P) l.lists) e l.invariant.1)
-          (subst (λ (m : List ℤ). Counted (atoms m) l.lists c.count_head.new.lists) head c.count_head.ensures),
-    )
+    let t = a.t.now.words.now in
+    let k = l.r - 1 in
+    let P = places_of t a.t.now.places in
+    let e : l.r ≡ k + 1 = omega arith in
+    let head : c.part-head.result.now ≡ part_at t (get_or P k 0) = c.part-head.ensures ∙ ap (part_at t) (read) in
+    counts_on t a.t.now.places k l.lists c.count_head.new.lists (omega arith) (subst (λ (n : ℕ). Counts t a.t.now.places (drop n P) l.lists) e l.invariant)
+    (subst (λ (m : List ℤ). Counted (atoms m) l.lists c.count_head.new.lists) head c.count_head.ensures)
 
 pub returns : goal.returns
 returns c =
-    let l = c.loop-counted in
+    let l = c.loop-r in
     let a = c.args in
-    let z : a.tb.rules - l.counted ≡ 0 = omega (arith, c.loop-counted-test.false) in
-    subst (λ (n : ℕ). Counts a.t.now a.tb (drop n (places_of a.t.now a.tb)) l.lists) z l.invariant.1
+    let z : l.r ≡ 0 = omega arith in
+    subst (λ (n : ℕ). Counts a.t.now.words.now a.t.now.places (drop n (places_of a.t.now.words.now a.t.now.places)) l.lists) z l.invariant

@@ -12,13 +12,13 @@ use Rattle.heads.proofs.fill.Goals as goal
 
 pub count-requires : goal.count-requires
 count-requires c =
-    let t = c.args.t.now in
+    let t = c.args.t.now.words.now in
     let a = c.clear.new.lists in
     let b = c.rules.new.lists in
     let e = c.rules.ensures in
     let zeros : (i : ℕ) → i < bounds → get_or b i 0 ≡ 0 = λ i h. sym (get_or-take bounds b i 0 h) ∙ ap (λ (l : List ℕ). get_or l i 0) e.1 ∙ get_or-take bounds a i 0 h ∙ c.clear.ensures.1 i h in
-    (c.requires.0, counts_start t c.args.tb b e.0 e.2 zeros)
+    counts_start t c.args.t.now.places b e.0 e.2 zeros
 
 pub ends-requires : goal.ends-requires
 ends-requires c =
-    (c.count.ensures.sized, fits c.args.t.now c.args.tb c.requires.0 c.count.new.lists c.count.ensures 256 (omega arith))
+    (c.count.ensures.sized, fits c.args.t.now.words.now c.args.t.now.places c.args.t.now.laid c.count.new.lists c.count.ensures 256 (omega arith))

@@ -1,20 +1,17 @@
--- `heads::has_atom` meets its contract. The invariant of its loop: the atom is among those to come where it is in the list. Assumes nothing.
-use mathlib.Core.Path.{sym, ◌∙◌}
-use native.Mathlib.Omega.{arith}
-use Rattle.heads.proofs.Walks.{has_here, has_on, has_end}
+-- `heads::has_atom` meets its contract. Assumes nothing.
+use borrow.Author.Rules.{rules}
+use mathlib.Core.Path.{◌≡◌, ◌∙◌}
+use lib.Dec.{eqb}
+use lib.IntN.{ℤ, nat_abs}
+use Rattle.std.specs.List.{list_any}
+use Rattle.std.proofs.lemmas.Iterator.{YieldsList-from_slice}
+use Rattle.std.proofs.lemmas.Iterator.Search.{any_from_yields_List}
+use Rattle.heads.proofs.Walks.{has_any}
 use Rattle.heads.proofs.has_atom.Goals as goal
-
-pub returns-then-atom-p : goal.returns-then-atom-p
-returns-then-atom-p c =
-    let a = c.args in
-    sym (has_here a.l.now c.loop-i.i a.p c.loop-i-test.true (sym c.atom.ensures ∙ c.if-atom-p.true)) ∙ c.loop-i.invariant.1
-
-pub loop-i-preserved : goal.loop-i-preserved
-loop-i-preserved c =
-    let a = c.args in
-    (omega arith, sym (has_on a.l.now c.loop-i.i a.p c.loop-i-test.true (λ e. c.if-atom-p.false (c.atom.ensures ∙ e))) ∙ c.loop-i.invariant.1)
 
 pub returns : goal.returns
 returns c =
-    let a = c.args in
-    sym (has_end a.l.now c.loop-i.i a.p c.loop-i-test.false) ∙ c.loop-i.invariant.1
+    let l = c.args.l.now in
+    let asked : c.any.result ≡ list_any (λ (w : ℤ). eqb (nat_abs w) c.args.p) l =
+    any_from_yields_List (λ (w : ℤ). eqb (nat_abs w) c.args.p) _ _ _ c.any.ensures.ran (YieldsList-from_slice l cc) (λ x b q k. search rules) in
+    asked ∙ has_any c.args.p l

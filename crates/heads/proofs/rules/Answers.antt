@@ -1,5 +1,5 @@
 -- `heads::rules` meets its contract. The invariant of its loop: the places that stand from index bounds on, and those of the rules to come, are the places of
--- all rules; the words before stay. The measure is the number of rules to come. Assumes nothing.
+-- all rules; the words before stay.  Assumes nothing.
 use mathlib.Core.Path.{◌≡◌, sym, ap, ◌∙◌, subst}
 use mathlib.Core.List.{List, ◌++◌, append-nil}
 use Prim.Native.Nat.{ℕ, ◌+◌, ◌-◌, ◌<◌}
@@ -16,55 +16,54 @@ use Rattle.heads.proofs.rules.Goals as goal
 pub overflow_cast-lists : goal.overflow_cast-lists
 overflow_cast-lists c =
     let lies : let a = c.args in let l = c.loop-i in
-    RuleLies a.tb.atoms a.tb.aggregates a.t.now l.at × RulesLie a.tb.atoms a.tb.aggregates a.t.now (past_rule a.t.now l.at) (a.tb.rules - l.i - 1) =
+    RuleLies a.t.now.places.atoms a.t.now.places.aggregates a.t.now.words.now l.at × RulesLie a.t.now.places.atoms a.t.now.places.aggregates a.t.now.words.now (past_rule a.t.now.words.now l.at) (a.t.now.places.rules - l.i - 1) =
     let a = c.args in
     let l = c.loop-i in
-    lies_on a.t.now l.at a.tb.atoms a.tb.aggregates (a.tb.rules - l.i) (omega (arith, c.loop-i-test.true)) l.invariant.3 in
-    omega (arith, (lies).0.heads.fits, c.requires.0.short)
+    lies_on a.t.now.words.now l.at a.t.now.places.atoms a.t.now.places.aggregates (a.t.now.places.rules - l.i) (omega arith) l.invariant.2 in
+    omega (arith, (lies).0.heads.fits, c.args.t.now.laid.short)
 
-pub past_rule-next-requires : goal.past_rule-next-requires
-past_rule-next-requires c =
+pub past_rule-at-requires : goal.past_rule-at-requires
+past_rule-at-requires c =
     let lies : let a = c.args in let l = c.loop-i in
-    RuleLies a.tb.atoms a.tb.aggregates a.t.now l.at × RulesLie a.tb.atoms a.tb.aggregates a.t.now (past_rule a.t.now l.at) (a.tb.rules - l.i - 1) =
+    RuleLies a.t.now.places.atoms a.t.now.places.aggregates a.t.now.words.now l.at × RulesLie a.t.now.places.atoms a.t.now.places.aggregates a.t.now.words.now (past_rule a.t.now.words.now l.at) (a.t.now.places.rules - l.i - 1) =
     let a = c.args in
     let l = c.loop-i in
-    lies_on a.t.now l.at a.tb.atoms a.tb.aggregates (a.tb.rules - l.i) (omega (arith, c.loop-i-test.true)) l.invariant.3 in
+    lies_on a.t.now.words.now l.at a.t.now.places.atoms a.t.now.places.aggregates (a.t.now.places.rules - l.i) (omega arith) l.invariant.2 in
     (lies).0.aggs.fits
 
 pub loop-i-preserved : goal.loop-i-preserved
 loop-i-preserved c =
     let lies : let a = c.args in let l = c.loop-i in
-    RuleLies a.tb.atoms a.tb.aggregates a.t.now l.at × RulesLie a.tb.atoms a.tb.aggregates a.t.now (past_rule a.t.now l.at) (a.tb.rules - l.i - 1) =
+    RuleLies a.t.now.places.atoms a.t.now.places.aggregates a.t.now.words.now l.at × RulesLie a.t.now.places.atoms a.t.now.places.aggregates a.t.now.words.now (past_rule a.t.now.words.now l.at) (a.t.now.places.rules - l.i - 1) =
     let a = c.args in
     let l = c.loop-i in
-    lies_on a.t.now l.at a.tb.atoms a.tb.aggregates (a.tb.rules - l.i) (omega (arith, c.loop-i-test.true)) l.invariant.3 in
+    lies_on a.t.now.words.now l.at a.t.now.places.atoms a.t.now.places.aggregates (a.t.now.places.rules - l.i) (omega arith) l.invariant.2 in
     let l = c.loop-i in
     let a = c.args in
-    let t = a.t.now in
-    let e : a.tb.rules - l.i - 1 ≡ a.tb.rules - (l.i + 1) = omega arith in
-    let h : bounds + l.i < length l.lists = omega (arith, c.loop-i-test.true, l.invariant.1, c.requires.0.few_rules) in
-    let r : past_rule t l.at ≡ c.past_rule-next.result = sym c.past_rule-next.ensures in (
-      omega (arith, c.loop-i-test.true),
-      length-set l.lists (bounds + l.i) l.at ∙ l.invariant.1,
-      take-set-le bounds l.lists (bounds + l.i) l.at (omega arith) ∙ l.invariant.2,
-      subst (λ (n : ℕ). RulesLie a.tb.atoms a.tb.aggregates t c.past_rule-next.result n) e
-          (subst (λ (j : ℕ). RulesLie a.tb.atoms a.tb.aggregates t j (a.tb.rules - l.i - 1)) r (lies).1),
-      ap (λ (n : ℕ). part (set l.lists (bounds + l.i) l.at) bounds (l.i + 1) ++ places_from t c.past_rule-next.result n) (sym e)
-          ∙ ap (λ (j : ℕ). part (set l.lists (bounds + l.i) l.at) bounds (l.i + 1) ++ places_from t j (a.tb.rules - l.i - 1)) (sym r)
-          ∙ moved l.lists bounds l.i l.at (places_from t (past_rule t l.at) (a.tb.rules - l.i - 1)) (places_of t a.tb) h
-          (ap (λ (m : List ℕ). part l.lists bounds l.i ++ m) (sym (places_on t l.at (a.tb.rules - l.i) (omega (arith, c.loop-i-test.true)))) ∙ l.invariant.4),
+    let t = a.t.now.words.now in
+    let e : a.t.now.places.rules - l.i - 1 ≡ a.t.now.places.rules - (l.i + 1) = omega arith in
+    let h : bounds + l.i < length l.lists = omega (arith, l.invariant.0, c.args.t.now.laid.few_rules) in
+    let r : past_rule t l.at ≡ c.past_rule-at.result = sym c.past_rule-at.ensures in (
+      length-set l.lists (bounds + l.i) l.at ∙ l.invariant.0,
+      take-set-le bounds l.lists (bounds + l.i) l.at (omega arith) ∙ l.invariant.1,
+      subst (λ (n : ℕ). RulesLie a.t.now.places.atoms a.t.now.places.aggregates t c.past_rule-at.result n) e
+          (subst (λ (j : ℕ). RulesLie a.t.now.places.atoms a.t.now.places.aggregates t j (a.t.now.places.rules - l.i - 1)) r (lies).1),
+      ap (λ (n : ℕ). part (set l.lists (bounds + l.i) l.at) bounds (l.i + 1) ++ places_from t c.past_rule-at.result n) (sym e)
+          ∙ ap (λ (j : ℕ). part (set l.lists (bounds + l.i) l.at) bounds (l.i + 1) ++ places_from t j (a.t.now.places.rules - l.i - 1)) (sym r)
+          ∙ moved l.lists bounds l.i l.at (places_from t (past_rule t l.at) (a.t.now.places.rules - l.i - 1)) (places_of t a.t.now.places) h
+          (ap (λ (m : List ℕ). part l.lists bounds l.i ++ m) (sym (places_on t l.at (a.t.now.places.rules - l.i) (omega arith))) ∙ l.invariant.3),
     )
 
 pub returns : goal.returns
 returns c =
     let l = c.loop-i in
     let a = c.args in
-    let e : l.i ≡ a.tb.rules = omega (arith, c.loop-i-test.false, l.invariant.0) in
-    let z : a.tb.rules - l.i ≡ 0 = omega (arith, c.loop-i-test.false) in
-    let t = a.t.now in (
+    let e : l.i ≡ a.t.now.places.rules = omega arith in
+    let z : a.t.now.places.rules - l.i ≡ 0 = omega arith in
+    let t = a.t.now.words.now in (
+      l.invariant.0,
       l.invariant.1,
-      l.invariant.2,
       ap (part l.lists bounds) (sym e) ∙ sym (append-nil (part l.lists bounds l.i))
           ∙ ap (λ (m : List ℕ). part l.lists bounds l.i ++ m) (sym (ap (places_from t l.at) z ∙ places_zero t l.at))
-          ∙ l.invariant.4,
+          ∙ l.invariant.3,
     )

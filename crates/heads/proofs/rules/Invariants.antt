@@ -1,8 +1,8 @@
 -- `heads::rules` meets its contract. The invariant of its loop: the places that stand from index bounds on, and those of the rules to come, are the places of
--- all rules; the words before stay. The measure is the number of rules to come. Assumes nothing.
+-- all rules; the words before stay. Assumes nothing.
 use mathlib.Core.Path.{◌≡◌}
 use mathlib.Core.List.{◌++◌}
-use Prim.Native.Nat.{◌-◌, ◌≤◌}
+use Prim.Native.Nat.{◌-◌}
 use lib.ListN.{length, take}
 use Rattle.layout.specs.Layout.{RulesLie}
 use Rattle.heads.specs.Heads.{bounds, size, places_from, places_of}
@@ -11,8 +11,5 @@ use Rattle.heads.proofs.rules.Given as goal
 
 abbrev pub invariant-loop-i : goal.invariant-loop-i
 invariant-loop-i l =
-    (l.i ≤ l.tb.rules) × (length l.lists ≡ size) × (take bounds l.lists ≡ take bounds l.initial.lists) × RulesLie l.tb.atoms l.tb.aggregates l.t l.at (l.tb.rules - l.i)
-    × (part l.lists bounds l.i ++ places_from l.t l.at (l.tb.rules - l.i) ≡ places_of l.t l.tb)
-
-abbrev pub decreases-loop-i : goal.decreases-loop-i
-decreases-loop-i l = l.tb.rules - l.i
+    (length l.lists ≡ size) × (take bounds l.lists ≡ take bounds l.initial.lists) × RulesLie l.fn.t.places.atoms l.fn.t.places.aggregates l.t.words.now l.at (l.fn.t.places.rules - l.i)
+    × (part l.lists bounds l.i ++ places_from l.t.words.now l.at (l.fn.t.places.rules - l.i) ≡ places_of l.t.words.now l.fn.t.places)

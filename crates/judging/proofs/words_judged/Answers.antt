@@ -1,82 +1,51 @@
 -- `judging::words_judged` meets its contract: each way out is one of 01's refusals of the words, or what they hold. Assumes nothing.
-use borrow.Author.Rules.{rules}
 use mathlib.Core.Path.{◌≡◌, refl, sym, ap, ◌∙◌, subst}
+use mathlib.Core.List.{List}
+use lib.IntN.{ℤ}
+use Rattle.std.specs.Prelude.{Ok}
 use Rattle.layout.specs.declared.Table.{Table}
 use Rattle.layout.specs.Layout.{Laid, program_of}
-use Rattle.table.specs.Contents.{Contents, program}
-use Rattle.table.specs.Grammar as grammar
-use Rattle.table.specs.Places.{table_of}
-use Rattle.table.specs.declared.Reading.{Reading}
-use Rattle.table.proofs.Accepted.{fault_nothing, fault_refused, reading_accepted, reading_refused, accepted_laid}
+use Rattle.heads.specs.Heads.{Whole}
+use Rattle.table.specs.Places.{reading_of}
+use Rattle.table.proofs.Accepted.{fault_nothing, fault_refused, accepted_laid}
+use Rattle.table.proofs.Returned.{ends}
 use Rattle.depend.specs.Cycles.{cycle_by}
 use Rattle.judging.specs.Refusals.{table}
 use Rattle.judging.specs.Judging.{refused, taken}
-use Rattle.judging.proofs.Judged.{cycle_refuses, none_accepts, same_cycles, no_fault}
+use Rattle.judging.proofs.Judged.{cycle_refuses, none_accepts, same_cycles, no_fault, same_table}
 use Rattle.judging.proofs.words_judged.Goals as goal
 
-pub fill-requires : goal.fill-requires
-fill-requires c =
-    let holding : let t = c.args.words.now in
-    (d : Contents) × (grammar.contents_of t ≡ grammar.accepted d) × (c.read-reading.result.table ≡ table_of d) =
-    let t = c.args.words.now in
-    let w = fault_nothing t (sym (ap (λ (r : Reading). r.fault) c.read-reading.ensures) ∙ c.in-Nothing.is) in
-    (w.0, w.1, ap (λ (r : Reading). r.table) c.read-reading.ensures ∙ w.2) in
-    let laid : Laid c.args.words.now c.read-reading.result.table =
-    let h = holding in
-    let t = c.args.words.now in
-    subst (Laid t) (sym h.2) (accepted_laid t h.0 h.1) in
-    (laid, search rules)
+-- the table that is read is laid
+laid : (t : List ℤ) (tb : Table) → reading_of t ≡ Ok tb → Laid t tb
+laid t tb e = let w = fault_nothing t tb e in subst (Laid t) (sym w.2) (accepted_laid t w.0 w.1)
 
-pub refusal-cycle-requires : goal.refusal-cycle-requires
-refusal-cycle-requires c =
-    let holding : let t = c.args.words.now in
-    (d : Contents) × (grammar.contents_of t ≡ grammar.accepted d) × (c.read-reading.result.table ≡ table_of d) =
-    let t = c.args.words.now in
-    let w = fault_nothing t (sym (ap (λ (r : Reading). r.fault) c.read-reading.ensures) ∙ c.in-Nothing.is) in
-    (w.0, w.1, ap (λ (r : Reading). r.table) c.read-reading.ensures ∙ w.2) in
-    let laid : Laid c.args.words.now c.read-reading.result.table =
-    let h = holding in
-    let t = c.args.words.now in
-    subst (Laid t) (sym h.2) (accepted_laid t h.0 h.1) in
-    (laid, c.fill.ensures.listed)
+pub invariant_of-t : goal.invariant_of-t
+invariant_of-t c = record { laid = laid c.args.words.now c.in_ok-places.places (sym c.in_ok-places.ensures) }
 
-pub returns-in-Refused : goal.returns-in-Refused
-returns-in-Refused c =
-    let t = c.args.words.now in
-    let e = fault_refused t _ (sym (ap (λ (r : Reading). r.fault) c.read-reading.ensures) ∙ c.in-Refused.is) in
-    (λ few b good. refused _ (table few good _ e refl refl) (c.read-reading.ensures ∙ reading_refused t _ e), λ z. absurd (no_fault c.in-Refused.is z))
+pub refusal-requires : goal.refusal-requires
+refusal-requires c = c.fill.ensures.listed
 
-pub returns-in-Nothing-cycle : goal.returns-in-Nothing-cycle
-returns-in-Nothing-cycle c =
-    let holding : let t = c.args.words.now in
-    (d : Contents) × (grammar.contents_of t ≡ grammar.accepted d) × (c.read-reading.result.table ≡ table_of d) =
+pub returns-in_err-places : goal.returns-in_err-places
+returns-in_err-places c =
     let t = c.args.words.now in
-    let w = fault_nothing t (sym (ap (λ (r : Reading). r.fault) c.read-reading.ensures) ∙ c.in-Nothing.is) in
-    (w.0, w.1, ap (λ (r : Reading). r.table) c.read-reading.ensures ∙ w.2) in
-    let cycles : let h = holding in cycle_by c.args.cycles h.0.atoms (program h.0) ≡ c.refusal-cycle.result =
-    let h = holding in
+    let f = c.in_err-places.field-0.0 in
+    let e = ends c.from_residual.result f c.from_residual.ensures.1 in
+    (λ few b good. refused f (table few good f (fault_refused t f (sym c.in_err-places.ensures)) refl refl) e, λ tb i. absurd (no_fault e i))
+
+pub returns-in_err-refusal : goal.returns-in_err-refusal
+returns-in_err-refusal c =
     let a = c.args in
     let t = a.words.now in
-    sym (same_cycles a.cycles t h.0 h.1)
-    ∙ ap (λ (tb : Table). cycle_by a.cycles tb.atoms (program_of t tb)) (sym h.2) ∙ sym c.refusal-cycle.ensures in
-    let h = holding in
-    let t = c.args.words.now in
-    (λ few b good. taken h.0 (none_accepts t b few good h.0 h.1 (cycles ∙ c.in-Nothing-cycle.is)) (c.read-reading.ensures ∙ reading_accepted t h.0 h.1), λ e. c.fill.ensures)
+    let h = fault_nothing t c.in_ok-places.places (sym c.in_ok-places.ensures) in
+    let f = c.in_err-refusal.field-0.0 in
+    let e = ends c.from_residual-in_err-refusal.result f c.from_residual-in_err-refusal.ensures.1 in
+    let cycles = sym (same_cycles a.cycles t h.0 h.1) ∙ ap (λ (tb : Table). cycle_by a.cycles tb.atoms (program_of t tb)) (sym h.2) ∙ sym c.in_err-refusal.ensures in
+    (λ few b good. refused f (cycle_refuses t b few good h.0 h.1 f cycles) e, λ tb i. absurd (no_fault e i))
 
-pub returns-in-Refused-cycle : goal.returns-in-Refused-cycle
-returns-in-Refused-cycle c =
-    let holding : let t = c.args.words.now in
-    (d : Contents) × (grammar.contents_of t ≡ grammar.accepted d) × (c.read-reading.result.table ≡ table_of d) =
-    let t = c.args.words.now in
-    let w = fault_nothing t (sym (ap (λ (r : Reading). r.fault) c.read-reading.ensures) ∙ c.in-Nothing.is) in
-    (w.0, w.1, ap (λ (r : Reading). r.table) c.read-reading.ensures ∙ w.2) in
-    let cycles : let h = holding in cycle_by c.args.cycles h.0.atoms (program h.0) ≡ c.refusal-cycle.result =
-    let h = holding in
+pub returns : goal.returns
+returns c =
     let a = c.args in
     let t = a.words.now in
-    sym (same_cycles a.cycles t h.0 h.1)
-    ∙ ap (λ (tb : Table). cycle_by a.cycles tb.atoms (program_of t tb)) (sym h.2) ∙ sym c.refusal-cycle.ensures in
-    let h = holding in
-    let t = c.args.words.now in
-    let g = c.in-Refused-cycle.f in
-    (λ few b good. refused g (cycle_refuses t b few good h.0 h.1 g (cycles ∙ c.in-Refused-cycle.is)) c.refused.ensures, λ e. absurd (no_fault (ap (λ (r : Reading). r.fault) c.refused.ensures) e))
+    let h = fault_nothing t c.in_ok-places.places (sym c.in_ok-places.ensures) in
+    let cycles = sym (same_cycles a.cycles t h.0 h.1) ∙ ap (λ (tb : Table). cycle_by a.cycles tb.atoms (program_of t tb)) (sym h.2) ∙ sym c.in_ok-refusal.ensures in
+    (λ few b good. taken h.0 (none_accepts t b few good h.0 h.1 cycles) (ap Ok h.2), λ tb i. subst (λ (x : Table). Whole t x c.fill.new.lists) (same_table refl i) c.fill.ensures)

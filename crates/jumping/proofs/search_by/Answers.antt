@@ -24,17 +24,17 @@ use Rattle.jumping.proofs.Turns.{answers, limits}
 use Rattle.search.proofs.Fuel.{meas, turn_less}
 use Rattle.turns.specs.declared.Turn.TheVariants.{Answer, Limit}
 use Rattle.jumping.proofs.States.{problem}
-use Rattle.jumping.proofs.Settled.{ordered, depth, chosen, began, reached, turned, decides, spends, opens, picked, chose, struck, passed, back, over, jumps}
+use Rattle.jumping.proofs.Settled.{Turned, ordered, depth, chosen, began, reached, turned, decides, spends, opens, picked, chose, struck, passed, back, over, jumps}
 use Rattle.jumping.proofs.AtomTurn.{sole_rule, aimed, sets_fewer, sets_long, sets_on, Calm2, calm_over, calm_unsets, calm_forces, passes_one}
 use Rattle.jumping.proofs.Passing.{Result, rule_conflict, atom_conflict, at_rest_lem, falls, passes_go_on}
 use Rattle.jumping.proofs.search_by.Goals as goal
-use Rattle.jumping.proofs.search_by.Goals.{Left-rules, in-Nothing, in-Set, in-Nothing-a, in-Unset, in-Sole+in-Nothing-f, then-rules-test+in-Conflict, else-rules-test+then-atoms-test+in-Conflict-a, else-rules-test+else-atoms-test+then-not-changed}
+use Rattle.jumping.proofs.search_by.Goals.{Left-rules, After-decide-turn, in-Nothing, in-Set, in-Nothing-a, in-Unset, in-Sole+in_default, then-rules-test+in-Conflict, else-rules-test+then-atoms-test+in-Conflict-a, else-rules-test+else-atoms-test+then-not-changed}
 
 -- ---- the start
 
 pub turns-init : goal.turns-init
 turns-init c =
-    let h = c.requires.2 in
+    let h = c.requires.1 in
     let k : length c.args.rows0 ≡ 256 = search rules in
     (h.ordered, h.paid, h.few, k, λ g. (g, here refl))
 
@@ -42,16 +42,16 @@ pub passes-init : goal.passes-init
 passes-init c =
     let t = c.turns in
     let a = c.args in
-    let n = a.tb.atoms in
+    let n = a.t.now.places.atoms in
     let e = get_or a.lists.now 1 0 in
     let u = number_top n (missing (cells t.it.values t.it.records)) in (
       t.invariant.3,
       (refl, refl),
       (suc n, false, omega arith, omega arith, refl, omega arith),
       omega arith,
-      rules_out a.t.now a.lists.now t.it.values e e (omega arith),
+      rules_out a.t.now.words.now a.lists.now t.it.values e e (omega arith),
       omega arith,
-      atoms_out a.t.now a.tb t.it.values n (suc n) (omega arith),
+      atoms_out a.t.now.words.now a.t.now.places t.it.values n (suc n) (omega arith),
     )
 
 -- ---- the rules
@@ -59,29 +59,29 @@ passes-init c =
 pub demand-s-requires : goal.demand-s-requires
 demand-s-requires c =
     let a = c.args in
-    (c.requires.0, rule_turn.lies a.t.now a.tb a.lists.now c.rules.r c.requires.1 c.rules.invariant.0 (omega (arith, c.rules-test.true, c.rules.invariant.4)))
+    (rule_turn.lies a.t.now.words.now a.t.now.places a.lists.now c.rules.r c.requires.0 c.rules.invariant.0 (omega (arith, c.rules-test.true, c.rules.invariant.4)))
 
 pub reason-reason-requires : goal.reason-reason-requires
 reason-reason-requires c =
     let a = c.args in
-    (c.requires.0, rule_turn.lies a.t.now a.tb a.lists.now c.rules.r c.requires.1 c.rules.invariant.0 (omega (arith, c.rules-test.true, c.rules.invariant.4)))
+    (rule_turn.lies a.t.now.words.now a.t.now.places a.lists.now c.rules.r c.requires.0 c.rules.invariant.0 (omega (arith, c.rules-test.true, c.rules.invariant.4)))
 
 pub reason-reason-requires-in-Set : goal.reason-reason-requires-in-Set
 reason-reason-requires-in-Set c =
     let a = c.args in
-    (c.requires.0, rule_turn.lies a.t.now a.tb a.lists.now c.rules.r c.requires.1 c.rules.invariant.0 (omega (arith, c.rules-test.true, c.rules.invariant.4)))
+    (rule_turn.lies a.t.now.words.now a.t.now.places a.lists.now c.rules.r c.requires.0 c.rules.invariant.0 (omega (arith, c.rules-test.true, c.rules.invariant.4)))
 
 pub overflow_sub-i : goal.overflow_sub-i
 overflow_sub-i c =
     let a = c.args in
-    (rule_turn.aim a.t.now a.tb a.lists.now c.rules.r c.requires.0 c.requires.1 c.rules.invariant.0 (omega (arith, c.rules-test.true, c.rules.invariant.4)) c.rules.it.values c.in-Set.q c.in-Set.v
+    (rule_turn.aim a.t.now.words.now a.t.now.places a.lists.now c.rules.r c.args.t.now.laid c.requires.0 c.rules.invariant.0 (omega (arith, c.rules-test.true, c.rules.invariant.4)) c.rules.it.values c.in-Set.q c.in-Set.v
     (sym c.demand-s.ensures ∙ c.in-Set.is)).0
 
 pub offset_bounds-reasons-i : goal.offset_bounds-reasons-i
 offset_bounds-reasons-i c =
     let a = c.args in
     let h =
-    rule_turn.aim a.t.now a.tb a.lists.now c.rules.r c.requires.0 c.requires.1 c.rules.invariant.0 (omega (arith, c.rules-test.true, c.rules.invariant.4)) c.rules.it.values c.in-Set.q c.in-Set.v
+    rule_turn.aim a.t.now.words.now a.t.now.places a.lists.now c.rules.r c.args.t.now.laid c.requires.0 c.rules.invariant.0 (omega (arith, c.rules-test.true, c.rules.invariant.4)) c.rules.it.values c.in-Set.q c.in-Set.v
     (sym c.demand-s.ensures ∙ c.in-Set.is) in
     omega (arith, h.0, h.1)
 
@@ -89,14 +89,14 @@ pub bounds-reasons-i : goal.bounds-reasons-i
 bounds-reasons-i c =
     let a = c.args in
     let h =
-    rule_turn.aim a.t.now a.tb a.lists.now c.rules.r c.requires.0 c.requires.1 c.rules.invariant.0 (omega (arith, c.rules-test.true, c.rules.invariant.4)) c.rules.it.values c.in-Set.q c.in-Set.v
+    rule_turn.aim a.t.now.words.now a.t.now.places a.lists.now c.rules.r c.args.t.now.laid c.requires.0 c.rules.invariant.0 (omega (arith, c.rules-test.true, c.rules.invariant.4)) c.rules.it.values c.in-Set.q c.in-Set.v
     (sym c.demand-s.ensures ∙ c.in-Set.is) in
     omega (arith, h.0, h.1)
 
 pub set-it-requires : goal.set-it-requires
 set-it-requires c =
     let a = c.args in
-    rule_turn.aim a.t.now a.tb a.lists.now c.rules.r c.requires.0 c.requires.1 c.rules.invariant.0 (omega (arith, c.rules-test.true, c.rules.invariant.4)) c.rules.it.values c.in-Set.q c.in-Set.v
+    rule_turn.aim a.t.now.words.now a.t.now.places a.lists.now c.rules.r c.args.t.now.laid c.requires.0 c.rules.invariant.0 (omega (arith, c.rules-test.true, c.rules.invariant.4)) c.rules.it.values c.in-Set.q c.in-Set.v
     (sym c.demand-s.ensures ∙ c.in-Set.is)
 
 pub rules-preserved : goal.rules-preserved
@@ -106,19 +106,19 @@ rules-preserved c =
     let m = c.match-s in
     let i = l.invariant in
     let inside : l.r < get_or a.lists.now 1 0 = omega (arith, c.rules-test.true, i.4) in
-    let y : rule_turn.Calm a.t.now a.tb a.lists.now l.r l.it l.reasons l.changed m.it m.reasons m.rules_to m.atoms_to m.changed m.quiet =
+    let y : rule_turn.Calm a.t.now.words.now a.t.now.places a.lists.now l.r l.it l.reasons l.changed m.it m.reasons m.rules_to m.atoms_to m.changed m.quiet =
     elim c.match-s.branch [
       | in-Nothing w ↦ rw (w.it-is, w.reasons-is, w.rules_to-is, w.atoms_to-is, w.changed-is, w.quiet-is)
-          (rule_turn.calm_over a.t.now a.tb a.lists.now l.r l.it l.reasons l.changed l.rules_to l.atoms_to l.quiet i.1 i.4 i.5 i.6 i.7 i.8 i.9 (sym c.demand-s.ensures ∙ w.in-Nothing.is))
+          (rule_turn.calm_over a.t.now.words.now a.t.now.places a.lists.now l.r l.it l.reasons l.changed l.rules_to l.atoms_to l.quiet i.1 i.4 i.5 i.6 i.7 i.8 i.9 (sym c.demand-s.ensures ∙ w.in-Nothing.is))
       | in-Set w ↦ rw (w.it-is, w.reasons-is, w.rules_to-is, w.atoms_to-is, w.changed-is, w.quiet-is)
-          (rule_turn.calm_changes a.t.now a.tb a.lists.now l.r l.it l.reasons l.changed c.requires.0 c.requires.1 i.0 inside i.1
+          (rule_turn.calm_changes a.t.now.words.now a.t.now.places a.lists.now l.r l.it l.reasons l.changed c.args.t.now.laid c.requires.0 i.0 inside i.1
           w.reason-reason-in-Set.result w.reason-reason-in-Set.ensures w.in-Set.q w.in-Set.v w.set-it.result (sym c.demand-s.ensures ∙ w.in-Set.is) w.set-it.ensures)
     ] in
     let x = y.came in (
       omega arith,
       x.long,
       kept_then (view c.passes.it) (view l.it) (view m.it) i.2 x.kept,
-      rule_turn.goes_on a.t.now a.tb a.lists.now l.r l.it l.reasons l.changed c.requires.1 inside m.it m.reasons m.changed x _ i.3,
+      rule_turn.goes_on a.t.now.words.now a.t.now.places a.lists.now l.r l.it l.reasons l.changed c.requires.0 inside m.it m.reasons m.changed x _ i.3,
       y.bound,
       y.ahead,
       y.passed,
@@ -129,22 +129,22 @@ rules-preserved c =
 
 -- ---- the atom loop, and step e's loop inside it
 
-pub forced-f-requires : goal.forced-f-requires
-forced-f-requires c =
+pub forced-requires : goal.forced-requires
+forced-requires c =
     let a = c.args in
-    (c.requires.0, (sole_rule a.t.now a.tb c.atoms.it c.atoms.p c.in-Sole.place c.requires.0 (sym c.asked-a.ensures ∙ c.in-Sole.is)).lies)
+    (sole_rule a.t.now.words.now a.t.now.places c.atoms.it c.atoms.p c.in-Sole.place c.args.t.now.laid (sym c.asked-a.ensures ∙ c.in-Sole.is)).lies
 
 pub overflow_sub-j : goal.overflow_sub-j
 overflow_sub-j c =
     let a = c.args in
-    let s = sole_rule a.t.now a.tb c.atoms.it c.atoms.p c.in-Sole.place c.requires.0 (sym c.asked-a.ensures ∙ c.in-Sole.is) in
-    (aimed a.t.now a.tb c.sets.it c.atoms.it c.in-Sole.place c.in-Set-f.q c.in-Set-f.v c.requires.0 s (sym c.forced-f.ensures ∙ c.in-Set-f.is)).above
+    let s = sole_rule a.t.now.words.now a.t.now.places c.atoms.it c.atoms.p c.in-Sole.place c.args.t.now.laid (sym c.asked-a.ensures ∙ c.in-Sole.is) in
+    (aimed a.t.now.words.now a.t.now.places c.sets.it c.atoms.it c.in-Sole.place c.in-Some.q c.in-Some.v c.args.t.now.laid s (sym c.forced.ensures ∙ c.in-Some.is)).above
 
 pub offset_bounds-reasons-j : goal.offset_bounds-reasons-j
 offset_bounds-reasons-j c =
     let a = c.args in
-    let s = sole_rule a.t.now a.tb c.atoms.it c.atoms.p c.in-Sole.place c.requires.0 (sym c.asked-a.ensures ∙ c.in-Sole.is) in
-    let x = aimed a.t.now a.tb c.sets.it c.atoms.it c.in-Sole.place c.in-Set-f.q c.in-Set-f.v c.requires.0 s (sym c.forced-f.ensures ∙ c.in-Set-f.is) in
+    let s = sole_rule a.t.now.words.now a.t.now.places c.atoms.it c.atoms.p c.in-Sole.place c.args.t.now.laid (sym c.asked-a.ensures ∙ c.in-Sole.is) in
+    let x = aimed a.t.now.words.now a.t.now.places c.sets.it c.atoms.it c.in-Sole.place c.in-Some.q c.in-Some.v c.args.t.now.laid s (sym c.forced.ensures ∙ c.in-Some.is) in
     let l = x.above in
     let h = x.few in
     omega (arith, l, h)
@@ -152,39 +152,39 @@ offset_bounds-reasons-j c =
 pub bounds-reasons-j : goal.bounds-reasons-j
 bounds-reasons-j c =
     let a = c.args in
-    let s = sole_rule a.t.now a.tb c.atoms.it c.atoms.p c.in-Sole.place c.requires.0 (sym c.asked-a.ensures ∙ c.in-Sole.is) in
-    let x = aimed a.t.now a.tb c.sets.it c.atoms.it c.in-Sole.place c.in-Set-f.q c.in-Set-f.v c.requires.0 s (sym c.forced-f.ensures ∙ c.in-Set-f.is) in
+    let s = sole_rule a.t.now.words.now a.t.now.places c.atoms.it c.atoms.p c.in-Sole.place c.args.t.now.laid (sym c.asked-a.ensures ∙ c.in-Sole.is) in
+    let x = aimed a.t.now.words.now a.t.now.places c.sets.it c.atoms.it c.in-Sole.place c.in-Some.q c.in-Some.v c.args.t.now.laid s (sym c.forced.ensures ∙ c.in-Some.is) in
     let l = x.above in
     let h = x.few in
     omega (arith, l, h)
 
-pub set-it-requires-in-Set-f : goal.set-it-requires-in-Set-f
-set-it-requires-in-Set-f c =
+pub set-it-requires-in-Some : goal.set-it-requires-in-Some
+set-it-requires-in-Some c =
     let a = c.args in
-    let s = sole_rule a.t.now a.tb c.atoms.it c.atoms.p c.in-Sole.place c.requires.0 (sym c.asked-a.ensures ∙ c.in-Sole.is) in
-    let x = aimed a.t.now a.tb c.sets.it c.atoms.it c.in-Sole.place c.in-Set-f.q c.in-Set-f.v c.requires.0 s (sym c.forced-f.ensures ∙ c.in-Set-f.is) in
+    let s = sole_rule a.t.now.words.now a.t.now.places c.atoms.it c.atoms.p c.in-Sole.place c.args.t.now.laid (sym c.asked-a.ensures ∙ c.in-Sole.is) in
+    let x = aimed a.t.now.words.now a.t.now.places c.sets.it c.atoms.it c.in-Sole.place c.in-Some.q c.in-Some.v c.args.t.now.laid s (sym c.forced.ensures ∙ c.in-Some.is) in
     (x.above, x.few)
 
 pub sets-smaller : goal.sets-smaller
 sets-smaller c =
     let a = c.args in
-    let s = sole_rule a.t.now a.tb c.atoms.it c.atoms.p c.in-Sole.place c.requires.0 (sym c.asked-a.ensures ∙ c.in-Sole.is) in
-    let x = aimed a.t.now a.tb c.sets.it c.atoms.it c.in-Sole.place c.in-Set-f.q c.in-Set-f.v c.requires.0 s (sym c.forced-f.ensures ∙ c.in-Set-f.is) in
-    sets_fewer a.t.now a.tb c.sets.it c.in-Sole.place c.in-Set-f.q c.in-Set-f.v x c.set-it-in-Set-f.result c.set-it-in-Set-f.ensures
+    let s = sole_rule a.t.now.words.now a.t.now.places c.atoms.it c.atoms.p c.in-Sole.place c.args.t.now.laid (sym c.asked-a.ensures ∙ c.in-Sole.is) in
+    let x = aimed a.t.now.words.now a.t.now.places c.sets.it c.atoms.it c.in-Sole.place c.in-Some.q c.in-Some.v c.args.t.now.laid s (sym c.forced.ensures ∙ c.in-Some.is) in
+    sets_fewer a.t.now.words.now a.t.now.places c.sets.it c.in-Sole.place c.in-Some.q c.in-Some.v x c.set-it-in-Some.result c.set-it-in-Some.ensures
 
 pub sets-preserved : goal.sets-preserved
 sets-preserved c =
     let a = c.args in
     let i = c.sets.invariant in
-    let q = c.in-Set-f.q in
-    let v = c.in-Set-f.v in
-    let n = c.set-it-in-Set-f in
+    let q = c.in-Some.q in
+    let v = c.in-Some.v in
+    let n = c.set-it-in-Some in
     let why = c.whole_reason-whole-in-Sole.result in
-    let s = sole_rule a.t.now a.tb c.atoms.it c.atoms.p c.in-Sole.place c.requires.0 (sym c.asked-a.ensures ∙ c.in-Sole.is) in
-    let x = aimed a.t.now a.tb c.sets.it c.atoms.it c.in-Sole.place q v c.requires.0 s (sym c.forced-f.ensures ∙ c.in-Set-f.is) in (
-      sets_long a.t.now a.tb c.sets.it c.in-Sole.place q v x n.result n.ensures c.sets.reasons i.0 why,
+    let s = sole_rule a.t.now.words.now a.t.now.places c.atoms.it c.atoms.p c.in-Sole.place c.args.t.now.laid (sym c.asked-a.ensures ∙ c.in-Sole.is) in
+    let x = aimed a.t.now.words.now a.t.now.places c.sets.it c.atoms.it c.in-Sole.place q v c.args.t.now.laid s (sym c.forced.ensures ∙ c.in-Some.is) in (
+      sets_long a.t.now.words.now a.t.now.places c.sets.it c.in-Sole.place q v x n.result n.ensures c.sets.reasons i.0 why,
       kept_set (view c.atoms.it) (view c.sets.it) (view n.result) q v i.1 n.ensures,
-      sets_on a.t.now a.tb c.sets.it c.in-Sole.place q v x n.result n.ensures c.sets.reasons i.0 why ∙ i.2,
+      sets_on a.t.now.words.now a.t.now.places c.sets.it c.in-Sole.place q v x n.result n.ensures c.sets.reasons i.0 why ∙ i.2,
     )
 
 pub atoms-preserved : goal.atoms-preserved
@@ -193,26 +193,26 @@ atoms-preserved c =
     let l = c.atoms in
     let m = c.match-a in
     let i = l.invariant in
-    let h : l.p ≤ a.tb.atoms = let x = c.atoms-test.true in let z = i.7 in omega (arith, x, z) in
-    let y : Calm2 a.t.now a.tb a.lists.now l.it l.reasons l.changed l.p m.it m.reasons m.rules_to m.atoms_to m.changed m.last =
+    let h : l.p ≤ a.t.now.places.atoms = let x = c.atoms-test.true in let z = i.7 in omega (arith, x, z) in
+    let y : Calm2 a.t.now.words.now a.t.now.places a.lists.now l.it l.reasons l.changed l.p m.it m.reasons m.rules_to m.atoms_to m.changed m.last =
     elim c.match-a.branch [
       | in-Nothing-a w ↦
           rw (w.it-is, w.reasons-is, w.rules_to-is, w.atoms_to-is, w.changed-is, w.last-is)
-          (calm_over a.t.now a.tb a.lists.now l.it l.reasons l.changed l.p l.rules_to l.atoms_to l.last i.2 (sym c.asked-a.ensures ∙ w.in-Nothing-a.is) i.5 i.6 i.7 i.8 i.9 i.10)
+          (calm_over a.t.now.words.now a.t.now.places a.lists.now l.it l.reasons l.changed l.p l.rules_to l.atoms_to l.last i.2 (sym c.asked-a.ensures ∙ w.in-Nothing-a.is) i.5 i.6 i.7 i.8 i.9 i.10)
       | in-Unset w ↦
           rw (w.it-is, w.reasons-is, w.rules_to-is, w.atoms_to-is, w.changed-is, w.last-is)
-          (calm_unsets a.t.now a.tb a.lists.now l.it l.reasons l.changed l.p w.blame-others.result w.set-it-in-Unset.result w.blame-others.ensures i.2 c.requires.0 i.0 h
+          (calm_unsets a.t.now.words.now a.t.now.places a.lists.now l.it l.reasons l.changed l.p w.blame-others.result w.set-it-in-Unset.result w.blame-others.ensures i.2 c.args.t.now.laid i.0 h
           (sym c.asked-a.ensures ∙ w.in-Unset.is) w.set-it-in-Unset.ensures)
-      | in-Sole+in-Nothing-f w ↦
+      | in-Sole+in_default w ↦
           rw (w.it-is, w.reasons-is, w.rules_to-is, w.atoms_to-is, w.changed-is, w.last-is)
-          (calm_forces a.t.now a.tb a.lists.now l.it l.reasons l.changed l.p w.whole_reason-whole-in-Sole.result w.whole_reason-whole-in-Sole.ensures c.requires.0 w.in-Sole.place w.sets.it w.sets.reasons
-          (sym c.asked-a.ensures ∙ w.in-Sole.is) w.sets.invariant.0 w.sets.invariant.1 w.sets.invariant.2 (sym w.forced-f.ensures ∙ w.in-Nothing-f.is))
+          (calm_forces a.t.now.words.now a.t.now.places a.lists.now l.it l.reasons l.changed l.p w.whole_reason-whole-in-Sole.result w.whole_reason-whole-in-Sole.ensures c.args.t.now.laid w.in-Sole.place w.sets.it w.sets.reasons
+          (sym c.asked-a.ensures ∙ w.in-Sole.is) w.sets.invariant.0 w.sets.invariant.1 w.sets.invariant.2 (sym w.forced.ensures ∙ w.in_default.is))
     ] in (
       omega arith,
       omega (arith, h),
       y.came.long,
       kept_then (view c.rules.it) (view l.it) (view m.it) i.3 y.came.kept,
-      passes_one a.t.now a.tb a.lists.now l.it l.reasons l.changed l.p h m.it m.reasons m.changed y.came _ i.4,
+      passes_one a.t.now.words.now a.t.now.places a.lists.now l.it l.reasons l.changed l.p h m.it m.reasons m.changed y.came _ i.4,
       y.bound,
       y.rest,
       y.top,
@@ -225,7 +225,7 @@ atoms-preserved c =
 
 pub passes-smaller : goal.passes-smaller
 passes-smaller c =
-    falls c.args.t.now c.args.tb c.args.lists.now c.requires.0 c.requires.1 c.turns.it c.turns.reasons
+    falls c.args.t.now.words.now c.args.t.now.places c.args.lists.now c.args.t.now.laid c.requires.0 c.turns.it c.turns.reasons
     c.passes.it c.passes.reasons c.passes.made c.passes.rules_to c.passes.atoms_to c.passes.invariant
     c.rules.it c.rules.reasons c.rules.rules_to c.rules.atoms_to c.rules.changed c.rules.quiet c.rules.r c.rules.invariant
     c.rules-test.false c.atoms.it c.atoms.reasons c.atoms.rules_to c.atoms.atoms_to c.atoms.changed c.atoms.last c.atoms.p c.atoms.invariant
@@ -233,35 +233,35 @@ passes-smaller c =
 
 pub passes-preserved : goal.passes-preserved
 passes-preserved c =
-    passes_go_on c.args.t.now c.args.tb c.args.lists.now c.requires.0 c.requires.1 c.turns.it c.turns.reasons
+    passes_go_on c.args.t.now.words.now c.args.t.now.places c.args.lists.now c.args.t.now.laid c.requires.0 c.turns.it c.turns.reasons
     c.passes.it c.passes.reasons c.passes.made c.passes.rules_to c.passes.atoms_to c.passes.invariant
     c.rules.it c.rules.reasons c.rules.rules_to c.rules.atoms_to c.rules.changed c.rules.quiet c.rules.r c.rules.invariant
     c.rules-test.false c.atoms.it c.atoms.reasons c.atoms.rules_to c.atoms.atoms_to c.atoms.changed c.atoms.last c.atoms.p c.atoms.invariant
     c.atoms-test.false c.if-not-changed.false
 
 -- what the passes hand over, at all goals behind them: `propagates (goal.at.GOAL c).Left-rules`
-propagates : (c : Left-rules) → Result c.args.t.now c.args.tb c.args.lists.now c.turns.it c.turns.reasons c.passes.made c.rules-test.it c.rules-test.reasons c.rules-test.why c.rules-test.out
+propagates : (c : Left-rules) → Result c.args.t.now.words.now c.args.t.now.places c.args.lists.now c.turns.it c.turns.reasons c.passes.made c.rules-test.it c.rules-test.reasons c.rules-test.why c.rules-test.out
 propagates c =
-    let t = c.args.t.now in
-    let tb = c.args.tb in
+    let t = c.args.t.now.words.now in
+    let tb = c.args.t.now.places in
     let lists = c.args.lists.now in
     elim c.rules-test.branch [
       | then-rules-test+in-Conflict w ↦
           rw (w.it-is, w.reasons-is, w.why-is, w.out-is)
-          (rule_conflict t tb lists c.requires.0 c.requires.1 c.turns.it c.turns.reasons
+          (rule_conflict t tb lists c.args.t.now.laid c.requires.0 c.turns.it c.turns.reasons
           c.passes.it c.passes.reasons c.passes.made c.passes.rules_to c.passes.atoms_to c.passes.invariant
           c.rules.it c.rules.reasons c.rules.rules_to c.rules.atoms_to c.rules.changed c.rules.quiet c.rules.r c.rules.invariant
           w.rules-test.true w.reason-reason.result w.reason-reason.ensures (sym w.demand-s.ensures ∙ w.in-Conflict.is))
       | else-rules-test+then-atoms-test+in-Conflict-a w ↦
           rw (w.it-is, w.reasons-is, w.why-is, w.out-is)
-          (atom_conflict t tb lists c.requires.0 c.requires.1 c.turns.it c.turns.reasons
+          (atom_conflict t tb lists c.args.t.now.laid c.requires.0 c.turns.it c.turns.reasons
           c.passes.it c.passes.reasons c.passes.made c.passes.rules_to c.passes.atoms_to c.passes.invariant
           c.rules.it c.rules.reasons c.rules.rules_to c.rules.atoms_to c.rules.changed c.rules.quiet c.rules.r c.rules.invariant
           w.rules-test.false w.atoms.it w.atoms.reasons w.atoms.rules_to w.atoms.atoms_to w.atoms.changed w.atoms.last w.atoms.p w.atoms.invariant
           w.atoms-test.true w.whole_reason-whole.result w.whole_reason-whole.ensures (sym w.asked-a.ensures ∙ w.in-Conflict-a.is))
       | else-rules-test+else-atoms-test+then-not-changed w ↦
           rw (w.it-is, w.reasons-is, w.why-is, w.out-is)
-          (at_rest_lem t tb lists c.requires.0 c.requires.1 c.turns.it c.turns.reasons
+          (at_rest_lem t tb lists c.args.t.now.laid c.requires.0 c.turns.it c.turns.reasons
           c.passes.it c.passes.reasons c.passes.made c.passes.rules_to c.passes.atoms_to c.passes.invariant
           c.rules.it c.rules.reasons c.rules.rules_to c.rules.atoms_to c.rules.changed c.rules.quiet c.rules.r c.rules.invariant
           w.rules-test.false w.atoms.it w.atoms.reasons w.atoms.rules_to w.atoms.atoms_to w.atoms.changed w.atoms.last w.atoms.p w.atoms.invariant
@@ -279,193 +279,219 @@ long c =
 
 -- ---- the turn
 
+abbrev turn_at : (c : After-decide-turn)
+    → Handed (taking c.args.t.now.words.now c.args.lists.now) c.args.t.now.places.atoms c.turns.it c.turns.reasons c.passes.made c.rules-test.it c.rules-test.reasons c.rules-test.why c.rules-test.out → Turned
+turn_at c h = record {
+  t = c.args.t.now.words.now;
+  tb = c.args.t.now.places;
+  cycles = c.args.cycles;
+  lists = c.args.lists.now;
+  limit = c.args.limit;
+  laid = c.args.t.now.laid;
+  listed = c.requires.0;
+  it0 = c.turns.it;
+  rows0 = c.turns.reasons;
+  made0 = c.turns.choices;
+  skips0 = c.turns.skips;
+  most0 = c.turns.most;
+  began_ordered = c.turns.invariant.0;
+  made = c.passes.made;
+  it = c.rules-test.it;
+  reasons = c.rules-test.reasons;
+  why = c.rules-test.why;
+  out = c.rules-test.out;
+  h = h;
+  passes = c.greater-most.result;
+  greatest = c.greater-most.ensures;
+}
+
 pub overflow_add-choices : goal.overflow_add-choices
 overflow_add-choices c =
-    let h : Handed (taking c.args.t.now c.args.lists.now) c.args.tb.atoms c.turns.it c.turns.reasons c.passes.made c.rules-test.it c.rules-test.reasons c.rules-test.why c.rules-test.out = propagates (goal.at.overflow_add-choices c).Left-rules in
-    let k = spends c.args.t.now c.args.tb c.args.cycles c.args.lists.now c.args.limit c.requires.0 c.requires.1 c.turns.it c.turns.reasons c.turns.choices c.turns.skips c.turns.most c.turns.invariant.0 c.passes.made c.rules-test.it c.rules-test.reasons c.rules-test.why c.rules-test.out h c.greater-most.result c.greater-most.ensures _ (sym c.in-Answer.is ∙ c.decide-turn.ensures) in
+    let T = turn_at (goal.at.overflow_add-choices c).After-decide-turn (propagates (goal.at.overflow_add-choices c).Left-rules) in
+    let k = spends T _ (sym c.in-Answer.is ∙ c.decide-turn.ensures) in
     omega (arith, k, c.turns.invariant.2, c.ranges.limit)
 
 pub overflow_add-choices-in-Limit : goal.overflow_add-choices-in-Limit
 overflow_add-choices-in-Limit c =
-    let h : Handed (taking c.args.t.now c.args.lists.now) c.args.tb.atoms c.turns.it c.turns.reasons c.passes.made c.rules-test.it c.rules-test.reasons c.rules-test.why c.rules-test.out = propagates (goal.at.overflow_add-choices-in-Limit c).Left-rules in
-    let k = spends c.args.t.now c.args.tb c.args.cycles c.args.lists.now c.args.limit c.requires.0 c.requires.1 c.turns.it c.turns.reasons c.turns.choices c.turns.skips c.turns.most c.turns.invariant.0 c.passes.made c.rules-test.it c.rules-test.reasons c.rules-test.why c.rules-test.out h c.greater-most.result c.greater-most.ensures _ (sym c.in-Limit.is ∙ c.decide-turn.ensures) in
+    let T = turn_at (goal.at.overflow_add-choices-in-Limit c).After-decide-turn (propagates (goal.at.overflow_add-choices-in-Limit c).Left-rules) in
+    let k = spends T _ (sym c.in-Limit.is ∙ c.decide-turn.ensures) in
     omega (arith, k, c.turns.invariant.2, c.ranges.limit)
 
 pub overflow_add-choices-in-Conflict-turn : goal.overflow_add-choices-in-Conflict-turn
 overflow_add-choices-in-Conflict-turn c =
-    let h : Handed (taking c.args.t.now c.args.lists.now) c.args.tb.atoms c.turns.it c.turns.reasons c.passes.made c.rules-test.it c.rules-test.reasons c.rules-test.why c.rules-test.out = propagates (goal.at.overflow_add-choices-in-Conflict-turn c).Left-rules in
-    let k = spends c.args.t.now c.args.tb c.args.cycles c.args.lists.now c.args.limit c.requires.0 c.requires.1 c.turns.it c.turns.reasons c.turns.choices c.turns.skips c.turns.most c.turns.invariant.0 c.passes.made c.rules-test.it c.rules-test.reasons c.rules-test.why c.rules-test.out h c.greater-most.result c.greater-most.ensures _ (sym c.in-Conflict-turn.is ∙ c.decide-turn.ensures) in
+    let T = turn_at (goal.at.overflow_add-choices-in-Conflict-turn c).After-decide-turn (propagates (goal.at.overflow_add-choices-in-Conflict-turn c).Left-rules) in
+    let k = spends T _ (sym c.in-Conflict-turn.is ∙ c.decide-turn.ensures) in
     omega (arith, k, c.turns.invariant.2, c.ranges.limit)
 
 pub returns-in-Answer : goal.returns-in-Answer
 returns-in-Answer c =
-    let h : Handed (taking c.args.t.now c.args.lists.now) c.args.tb.atoms c.turns.it c.turns.reasons c.passes.made c.rules-test.it c.rules-test.reasons c.rules-test.why c.rules-test.out = propagates (goal.at.returns-in-Answer c).Left-rules in
-    let d = depth c.args.t.now c.args.tb c.args.cycles c.args.lists.now c.args.limit c.requires.0 c.requires.1 c.turns.it c.turns.reasons c.turns.choices c.turns.skips c.turns.most c.turns.invariant.0 c.passes.made c.rules-test.it c.rules-test.reasons c.rules-test.why c.rules-test.out h in
-    let l = spends c.args.t.now c.args.tb c.args.cycles c.args.lists.now c.args.limit c.requires.0 c.requires.1 c.turns.it c.turns.reasons c.turns.choices c.turns.skips c.turns.most c.turns.invariant.0 c.passes.made c.rules-test.it c.rules-test.reasons c.rules-test.why c.rules-test.out h c.greater-most.result c.greater-most.ensures _ (sym c.in-Answer.is ∙ c.decide-turn.ensures) in
+    let T = turn_at (goal.at.returns-in-Answer c).After-decide-turn (propagates (goal.at.returns-in-Answer c).Left-rules) in
+    let d = depth T in
+    let l = spends T _ (sym c.in-Answer.is ∙ c.decide-turn.ensures) in
     let v = c.turns.invariant.1 in
     let w = c.turns.invariant.2 in
-    subst (Searches (problem c.args.cycles c.args.t.now c.args.tb c.args.lists.now) c.args.limit c.args.from c.args.rows0) (sym c.pack.ensures) λ s. (let b = (c.turns.invariant.4 s).0 in
+    subst (Searches (problem c.args.cycles c.args.t.now.words.now c.args.t.now.places c.args.lists.now) c.args.limit c.args.from c.args.rows0) (sym c.pack.ensures) λ s. (let b = (c.turns.invariant.4 s).0 in
     let k = c.in-Answer.spent in
     let z : k + c.turns.choices ≡ c.turns.choices + k = omega arith in
-    let r = answers c.args.cycles (taking c.args.t.now c.args.lists.now) c.args.tb.atoms c.args.limit (reached c.args.t.now c.args.tb c.args.cycles c.args.lists.now c.args.limit c.requires.0 c.requires.1 c.turns.it c.turns.reasons c.turns.choices c.turns.skips c.turns.most c.turns.invariant.0 c.passes.made c.rules-test.it c.rules-test.reasons c.rules-test.why c.rules-test.out h c.greater-most.result c.greater-most.ensures b) c.rules-test.out (row c.rules-test.why) k (decides c.args.t.now c.args.tb c.args.cycles c.args.lists.now c.args.limit c.requires.0 c.requires.1 c.turns.it c.turns.reasons c.turns.choices c.turns.skips c.turns.most c.turns.invariant.0 c.passes.made c.rules-test.it c.rules-test.reasons c.rules-test.why c.rules-test.out h c.greater-most.result c.greater-most.ensures (Answer k) (sym c.in-Answer.is ∙ c.decide-turn.ensures) b) in
+    let r = answers c.args.cycles (taking c.args.t.now.words.now c.args.lists.now) c.args.t.now.places.atoms c.args.limit (reached T b) c.rules-test.out (row c.rules-test.why) k (decides T (Answer k) (sym c.in-Answer.is ∙ c.decide-turn.ensures) b) in
     record {
-      last = began c.args.t.now c.args.tb c.args.cycles c.args.lists.now c.args.limit c.requires.0 c.requires.1 c.turns.it c.turns.reasons c.turns.choices c.turns.skips c.turns.most c.turns.invariant.0 c.passes.made c.rules-test.it c.rules-test.reasons c.rules-test.why c.rules-test.out h c.greater-most.result c.greater-most.ensures b;
+      last = began T b;
       skipped = b;
       led = (c.turns.invariant.4 s).1;
-      ends = turned c.args.t.now c.args.tb c.args.cycles c.args.lists.now c.args.limit c.requires.0 c.requires.1 c.turns.it c.turns.reasons c.turns.choices c.turns.skips c.turns.most c.turns.invariant.0 c.passes.made c.rules-test.it c.rules-test.reasons c.rules-test.why c.rules-test.out h c.greater-most.result c.greater-most.ensures b ∙ r ∙ (λ j. end (record { result = answer (true_atoms c.args.tb.atoms (cells c.rules-test.it.values c.rules-test.it.records)); choices = z j; skips = c.turns.skips; passes = c.greater-most.result; skipped = b }));
-      state = h.state;
-      reasoned = h.reasoned;
-      again = λ _. record { ordered = ordered c.args.t.now c.args.tb c.args.cycles c.args.lists.now c.args.limit c.requires.0 c.requires.1 c.turns.it c.turns.reasons c.turns.choices c.turns.skips c.turns.most c.turns.invariant.0 c.passes.made c.rules-test.it c.rules-test.reasons c.rules-test.why c.rules-test.out h; paid = omega (arith, l, d.0, v, w); few = omega (arith, l, w) };
+      ends = turned T b ∙ r ∙ (λ j. end (record { result = answer (true_atoms c.args.t.now.places.atoms (cells c.rules-test.it.values c.rules-test.it.records)); choices = z j; skips = c.turns.skips; passes = c.greater-most.result; skipped = b }));
+      state = T.h.state;
+      reasoned = T.h.reasoned;
+      again = λ _. record { ordered = ordered T; paid = omega (arith, l, d.0, v, w); few = omega (arith, l, w) };
     })
 
 pub returns-in-Limit : goal.returns-in-Limit
 returns-in-Limit c =
-    let h : Handed (taking c.args.t.now c.args.lists.now) c.args.tb.atoms c.turns.it c.turns.reasons c.passes.made c.rules-test.it c.rules-test.reasons c.rules-test.why c.rules-test.out = propagates (goal.at.returns-in-Limit c).Left-rules in
-    subst (Searches (problem c.args.cycles c.args.t.now c.args.tb c.args.lists.now) c.args.limit c.args.from c.args.rows0) (sym c.pack-in-Limit.ensures) λ s. (let b = (c.turns.invariant.4 s).0 in
+    let T = turn_at (goal.at.returns-in-Limit c).After-decide-turn (propagates (goal.at.returns-in-Limit c).Left-rules) in
+    subst (Searches (problem c.args.cycles c.args.t.now.words.now c.args.t.now.places c.args.lists.now) c.args.limit c.args.from c.args.rows0) (sym c.pack-in-Limit.ensures) λ s. (let b = (c.turns.invariant.4 s).0 in
     let k = c.in-Limit.spent in
     let z : k + c.turns.choices ≡ c.turns.choices + k = omega arith in
-    let r = limits c.args.cycles (taking c.args.t.now c.args.lists.now) c.args.tb.atoms c.args.limit (reached c.args.t.now c.args.tb c.args.cycles c.args.lists.now c.args.limit c.requires.0 c.requires.1 c.turns.it c.turns.reasons c.turns.choices c.turns.skips c.turns.most c.turns.invariant.0 c.passes.made c.rules-test.it c.rules-test.reasons c.rules-test.why c.rules-test.out h c.greater-most.result c.greater-most.ensures b) c.rules-test.out (row c.rules-test.why) k (decides c.args.t.now c.args.tb c.args.cycles c.args.lists.now c.args.limit c.requires.0 c.requires.1 c.turns.it c.turns.reasons c.turns.choices c.turns.skips c.turns.most c.turns.invariant.0 c.passes.made c.rules-test.it c.rules-test.reasons c.rules-test.why c.rules-test.out h c.greater-most.result c.greater-most.ensures (Limit k) (sym c.in-Limit.is ∙ c.decide-turn.ensures) b) in
+    let r = limits c.args.cycles (taking c.args.t.now.words.now c.args.lists.now) c.args.t.now.places.atoms c.args.limit (reached T b) c.rules-test.out (row c.rules-test.why) k (decides T (Limit k) (sym c.in-Limit.is ∙ c.decide-turn.ensures) b) in
     record {
-      last = began c.args.t.now c.args.tb c.args.cycles c.args.lists.now c.args.limit c.requires.0 c.requires.1 c.turns.it c.turns.reasons c.turns.choices c.turns.skips c.turns.most c.turns.invariant.0 c.passes.made c.rules-test.it c.rules-test.reasons c.rules-test.why c.rules-test.out h c.greater-most.result c.greater-most.ensures b;
+      last = began T b;
       skipped = b;
       led = (c.turns.invariant.4 s).1;
-      ends = turned c.args.t.now c.args.tb c.args.cycles c.args.lists.now c.args.limit c.requires.0 c.requires.1 c.turns.it c.turns.reasons c.turns.choices c.turns.skips c.turns.most c.turns.invariant.0 c.passes.made c.rules-test.it c.rules-test.reasons c.rules-test.why c.rules-test.out h c.greater-most.result c.greater-most.ensures b ∙ r ∙ (λ j. end (record { result = limit; choices = z j; skips = c.turns.skips; passes = c.greater-most.result; skipped = b }));
-      state = h.state;
-      reasoned = h.reasoned;
+      ends = turned T b ∙ r ∙ (λ j. end (record { result = limit; choices = z j; skips = c.turns.skips; passes = c.greater-most.result; skipped = b }));
+      state = T.h.state;
+      reasoned = T.h.reasoned;
       again = λ e. absurd (let z : ◌≡◌ {A = ℕ} 0 1 = cc in omega arith);
     })
 
 pub returns-in-End : goal.returns-in-End
 returns-in-End c =
-    let h : Handed (taking c.args.t.now c.args.lists.now) c.args.tb.atoms c.turns.it c.turns.reasons c.passes.made c.rules-test.it c.rules-test.reasons c.rules-test.why c.rules-test.out = propagates (goal.at.returns-in-End c).Left-rules in
-    subst (Searches (problem c.args.cycles c.args.t.now c.args.tb c.args.lists.now) c.args.limit c.args.from c.args.rows0) (sym c.pack-in-End.ensures) λ s. (let b = (c.turns.invariant.4 s).0 in
+    let T = turn_at (goal.at.returns-in-End c).After-decide-turn (propagates (goal.at.returns-in-End c).Left-rules) in
+    subst (Searches (problem c.args.cycles c.args.t.now.words.now c.args.t.now.places c.args.lists.now) c.args.limit c.args.from c.args.rows0) (sym c.pack-in-End.ensures) λ s. (let b = (c.turns.invariant.4 s).0 in
     let i = c.rules-test.it in
     let k = c.in-Conflict-turn.spent in
     let m = branches (choices i.chosen i.depth) 0 i.depth ++ b in
     let z : k + c.turns.choices ≡ c.turns.choices + k = omega arith in
     record {
-      last = began c.args.t.now c.args.tb c.args.cycles c.args.lists.now c.args.limit c.requires.0 c.requires.1 c.turns.it c.turns.reasons c.turns.choices c.turns.skips c.turns.most c.turns.invariant.0 c.passes.made c.rules-test.it c.rules-test.reasons c.rules-test.why c.rules-test.out h c.greater-most.result c.greater-most.ensures b;
+      last = began T b;
       skipped = m;
       led = (c.turns.invariant.4 s).1;
-      ends = struck c.args.t.now c.args.tb c.args.cycles c.args.lists.now c.args.limit c.requires.0 c.requires.1 c.turns.it c.turns.reasons c.turns.choices c.turns.skips c.turns.most c.turns.invariant.0 c.passes.made c.rules-test.it c.rules-test.reasons c.rules-test.why c.rules-test.out h c.greater-most.result c.greater-most.ensures c.in-Conflict-turn.spent (sym c.in-Conflict-turn.is ∙ c.decide-turn.ensures) c.blame-reason.result c.blame-reason.ensures _ (sym c.in-End.is ∙ c.go_back-back.ensures) b ∙ (λ j. end (record { result = no_answer; choices = z j; skips = c.turns.skips + c.in-End.passed; passes = c.greater-most.result; skipped = m }));
-      state = h.state;
-      reasoned = h.reasoned;
+      ends = struck T c.in-Conflict-turn.spent (sym c.in-Conflict-turn.is ∙ c.decide-turn.ensures) c.blame-reason.result c.blame-reason.ensures _ (sym c.in-End.is ∙ c.go_back-back.ensures) b ∙ (λ j. end (record { result = no_answer; choices = z j; skips = c.turns.skips + c.in-End.passed; passes = c.greater-most.result; skipped = m }));
+      state = T.h.state;
+      reasoned = T.h.reasoned;
       again = λ e. absurd (let z : ◌≡◌ {A = ℕ} 0 1 = cc in omega arith);
     })
 
 pub overflow_sub-i-in-Choose : goal.overflow_sub-i-in-Choose
 overflow_sub-i-in-Choose c =
-    let h : Handed (taking c.args.t.now c.args.lists.now) c.args.tb.atoms c.turns.it c.turns.reasons c.passes.made c.rules-test.it c.rules-test.reasons c.rules-test.why c.rules-test.out = propagates (goal.at.overflow_sub-i-in-Choose c).Left-rules in
-    let x = picked c.args.t.now c.args.tb c.args.cycles c.args.lists.now c.args.limit c.requires.0 c.requires.1 c.turns.it c.turns.reasons c.turns.choices c.turns.skips c.turns.most c.turns.invariant.0 c.passes.made c.rules-test.it c.rules-test.reasons c.rules-test.why c.rules-test.out h c.greater-most.result c.greater-most.ensures c.in-Choose.a (sym c.in-Choose.is ∙ c.decide-turn.ensures) in
+    let T = turn_at (goal.at.overflow_sub-i-in-Choose c).After-decide-turn (propagates (goal.at.overflow_sub-i-in-Choose c).Left-rules) in
+    let x = picked T c.in-Choose.a (sym c.in-Choose.is ∙ c.decide-turn.ensures) in
     x.0
 
 pub single-own-requires : goal.single-own-requires
 single-own-requires c =
-    let h : Handed (taking c.args.t.now c.args.lists.now) c.args.tb.atoms c.turns.it c.turns.reasons c.passes.made c.rules-test.it c.rules-test.reasons c.rules-test.why c.rules-test.out = propagates (goal.at.single-own-requires c).Left-rules in
-    let x = picked c.args.t.now c.args.tb c.args.cycles c.args.lists.now c.args.limit c.requires.0 c.requires.1 c.turns.it c.turns.reasons c.turns.choices c.turns.skips c.turns.most c.turns.invariant.0 c.passes.made c.rules-test.it c.rules-test.reasons c.rules-test.why c.rules-test.out h c.greater-most.result c.greater-most.ensures c.in-Choose.a (sym c.in-Choose.is ∙ c.decide-turn.ensures) in
+    let T = turn_at (goal.at.single-own-requires c).After-decide-turn (propagates (goal.at.single-own-requires c).Left-rules) in
+    let x = picked T c.in-Choose.a (sym c.in-Choose.is ∙ c.decide-turn.ensures) in
     let y = x.2 in omega arith
 
 pub offset_bounds-reasons-i-in-Choose : goal.offset_bounds-reasons-i-in-Choose
 offset_bounds-reasons-i-in-Choose c =
-    let h : Handed (taking c.args.t.now c.args.lists.now) c.args.tb.atoms c.turns.it c.turns.reasons c.passes.made c.rules-test.it c.rules-test.reasons c.rules-test.why c.rules-test.out = propagates (goal.at.offset_bounds-reasons-i-in-Choose c).Left-rules in
-    let x = picked c.args.t.now c.args.tb c.args.cycles c.args.lists.now c.args.limit c.requires.0 c.requires.1 c.turns.it c.turns.reasons c.turns.choices c.turns.skips c.turns.most c.turns.invariant.0 c.passes.made c.rules-test.it c.rules-test.reasons c.rules-test.why c.rules-test.out h c.greater-most.result c.greater-most.ensures c.in-Choose.a (sym c.in-Choose.is ∙ c.decide-turn.ensures) in
+    let T = turn_at (goal.at.offset_bounds-reasons-i-in-Choose c).After-decide-turn (propagates (goal.at.offset_bounds-reasons-i-in-Choose c).Left-rules) in
+    let x = picked T c.in-Choose.a (sym c.in-Choose.is ∙ c.decide-turn.ensures) in
     let y = x.1 in omega arith
 
 pub bounds-reasons-i-in-Choose : goal.bounds-reasons-i-in-Choose
 bounds-reasons-i-in-Choose c =
-    let h : Handed (taking c.args.t.now c.args.lists.now) c.args.tb.atoms c.turns.it c.turns.reasons c.passes.made c.rules-test.it c.rules-test.reasons c.rules-test.why c.rules-test.out = propagates (goal.at.bounds-reasons-i-in-Choose c).Left-rules in
-    let x = picked c.args.t.now c.args.tb c.args.cycles c.args.lists.now c.args.limit c.requires.0 c.requires.1 c.turns.it c.turns.reasons c.turns.choices c.turns.skips c.turns.most c.turns.invariant.0 c.passes.made c.rules-test.it c.rules-test.reasons c.rules-test.why c.rules-test.out h c.greater-most.result c.greater-most.ensures c.in-Choose.a (sym c.in-Choose.is ∙ c.decide-turn.ensures) in
+    let T = turn_at (goal.at.bounds-reasons-i-in-Choose c).After-decide-turn (propagates (goal.at.bounds-reasons-i-in-Choose c).Left-rules) in
+    let x = picked T c.in-Choose.a (sym c.in-Choose.is ∙ c.decide-turn.ensures) in
     let y = x.0 in let z = x.1 in omega arith
 
 pub open-it-requires : goal.open-it-requires
 open-it-requires c =
-    let h : Handed (taking c.args.t.now c.args.lists.now) c.args.tb.atoms c.turns.it c.turns.reasons c.passes.made c.rules-test.it c.rules-test.reasons c.rules-test.why c.rules-test.out = propagates (goal.at.open-it-requires c).Left-rules in
-    let x = picked c.args.t.now c.args.tb c.args.cycles c.args.lists.now c.args.limit c.requires.0 c.requires.1 c.turns.it c.turns.reasons c.turns.choices c.turns.skips c.turns.most c.turns.invariant.0 c.passes.made c.rules-test.it c.rules-test.reasons c.rules-test.why c.rules-test.out h c.greater-most.result c.greater-most.ensures c.in-Choose.a (sym c.in-Choose.is ∙ c.decide-turn.ensures) in
+    let T = turn_at (goal.at.open-it-requires c).After-decide-turn (propagates (goal.at.open-it-requires c).Left-rules) in
+    let x = picked T c.in-Choose.a (sym c.in-Choose.is ∙ c.decide-turn.ensures) in
     x
 
 pub turns-smaller-in-Choose : goal.turns-smaller-in-Choose
 unfolding meas
 turns-smaller-in-Choose c =
-    let h : Handed (taking c.args.t.now c.args.lists.now) c.args.tb.atoms c.turns.it c.turns.reasons c.passes.made c.rules-test.it c.rules-test.reasons c.rules-test.why c.rules-test.out = propagates (goal.at.turns-smaller-in-Choose c).Left-rules in
+    let T = turn_at (goal.at.turns-smaller-in-Choose c).After-decide-turn (propagates (goal.at.turns-smaller-in-Choose c).Left-rules) in
     let len : length c.rules-test.reasons ≡ 256 = long (goal.at.turns-smaller-in-Choose c).Left-rules in
-    turn_less (problem c.args.cycles c.args.t.now c.args.tb c.args.lists.now) jump c.args.limit _ _ (chose c.args.t.now c.args.tb c.args.cycles c.args.lists.now c.args.limit c.requires.0 c.requires.1 c.turns.it c.turns.reasons c.turns.choices c.turns.skips c.turns.most c.turns.invariant.0 c.passes.made c.rules-test.it c.rules-test.reasons c.rules-test.why c.rules-test.out h c.greater-most.result c.greater-most.ensures c.in-Choose.a (sym c.in-Choose.is ∙ c.decide-turn.ensures) len _ c.single-own.ensures _ c.open-it.ensures [])
+    turn_less (problem c.args.cycles c.args.t.now.words.now c.args.t.now.places c.args.lists.now) jump c.args.limit _ _ (chose T c.in-Choose.a (sym c.in-Choose.is ∙ c.decide-turn.ensures) len _ c.single-own.ensures _ c.open-it.ensures [])
 
 pub turns-preserved-in-Choose : goal.turns-preserved-in-Choose
 turns-preserved-in-Choose c =
-    let h : Handed (taking c.args.t.now c.args.lists.now) c.args.tb.atoms c.turns.it c.turns.reasons c.passes.made c.rules-test.it c.rules-test.reasons c.rules-test.why c.rules-test.out = propagates (goal.at.turns-preserved-in-Choose c).Left-rules in
+    let T = turn_at (goal.at.turns-preserved-in-Choose c).After-decide-turn (propagates (goal.at.turns-preserved-in-Choose c).Left-rules) in
     let len : length c.rules-test.reasons ≡ 256 = long (goal.at.turns-preserved-in-Choose c).Left-rules in
     let e : c.open-it.result.depth ≡ suc c.rules-test.it.depth = ap (λ (s : state.Interpretation). s.level) c.open-it.ensures in
-    let d = (depth c.args.t.now c.args.tb c.args.cycles c.args.lists.now c.args.limit c.requires.0 c.requires.1 c.turns.it c.turns.reasons c.turns.choices c.turns.skips c.turns.most c.turns.invariant.0 c.passes.made c.rules-test.it c.rules-test.reasons c.rules-test.why c.rules-test.out h).0 in
-    let o = opens c.args.t.now c.args.tb c.args.cycles c.args.lists.now c.args.limit c.requires.0 c.requires.1 c.turns.it c.turns.reasons c.turns.choices c.turns.skips c.turns.most c.turns.invariant.0 c.passes.made c.rules-test.it c.rules-test.reasons c.rules-test.why c.rules-test.out h c.greater-most.result c.greater-most.ensures c.in-Choose.a (sym c.in-Choose.is ∙ c.decide-turn.ensures) [] in
+    let d = (depth T).0 in
+    let o = opens T c.in-Choose.a (sym c.in-Choose.is ∙ c.decide-turn.ensures) [] in
     let m = o.2 in
     let v = c.turns.invariant.1 in (
-      subst (Ordered c.args.tb.atoms) (sym c.open-it.ensures) (ordered_open c.args.tb.atoms (view c.rules-test.it) (ordered c.args.t.now c.args.tb c.args.cycles c.args.lists.now c.args.limit c.requires.0 c.requires.1 c.turns.it c.turns.reasons c.turns.choices c.turns.skips c.turns.most c.turns.invariant.0 c.passes.made c.rules-test.it c.rules-test.reasons c.rules-test.why c.rules-test.out h) c.in-Choose.a o.1),
+      subst (Ordered c.args.t.now.places.atoms) (sym c.open-it.ensures) (ordered_open c.args.t.now.places.atoms (view c.rules-test.it) (ordered T) c.in-Choose.a o.1),
       omega arith,
       omega arith,
       simp length-set len,
-      λ s. (let i = c.turns.invariant.4 s in (i.0, on i.1 (chose c.args.t.now c.args.tb c.args.cycles c.args.lists.now c.args.limit c.requires.0 c.requires.1 c.turns.it c.turns.reasons c.turns.choices c.turns.skips c.turns.most c.turns.invariant.0 c.passes.made c.rules-test.it c.rules-test.reasons c.rules-test.why c.rules-test.out h c.greater-most.result c.greater-most.ensures c.in-Choose.a (sym c.in-Choose.is ∙ c.decide-turn.ensures) len _ c.single-own.ensures _ c.open-it.ensures i.0))),
+      λ s. (let i = c.turns.invariant.4 s in (i.0, on i.1 (chose T c.in-Choose.a (sym c.in-Choose.is ∙ c.decide-turn.ensures) len _ c.single-own.ensures _ c.open-it.ensures i.0))),
     )
 
 pub blame-reason-requires : goal.blame-reason-requires
 blame-reason-requires c =
-    let h : Handed (taking c.args.t.now c.args.lists.now) c.args.tb.atoms c.turns.it c.turns.reasons c.passes.made c.rules-test.it c.rules-test.reasons c.rules-test.why c.rules-test.out = propagates (goal.at.blame-reason-requires c).Left-rules in
-    (depth c.args.t.now c.args.tb c.args.cycles c.args.lists.now c.args.limit c.requires.0 c.requires.1 c.turns.it c.turns.reasons c.turns.choices c.turns.skips c.turns.most c.turns.invariant.0 c.passes.made c.rules-test.it c.rules-test.reasons c.rules-test.why c.rules-test.out h).1
+    let T = turn_at (goal.at.blame-reason-requires c).After-decide-turn (propagates (goal.at.blame-reason-requires c).Left-rules) in
+    (depth T).1
 
 pub go_back-back-requires : goal.go_back-back-requires
 go_back-back-requires c =
-    let h : Handed (taking c.args.t.now c.args.lists.now) c.args.tb.atoms c.turns.it c.turns.reasons c.passes.made c.rules-test.it c.rules-test.reasons c.rules-test.why c.rules-test.out = propagates (goal.at.go_back-back-requires c).Left-rules in
-    ((depth c.args.t.now c.args.tb c.args.cycles c.args.lists.now c.args.limit c.requires.0 c.requires.1 c.turns.it c.turns.reasons c.turns.choices c.turns.skips c.turns.most c.turns.invariant.0 c.passes.made c.rules-test.it c.rules-test.reasons c.rules-test.why c.rules-test.out h).1, chosen c.args.t.now c.args.tb c.args.cycles c.args.lists.now c.args.limit c.requires.0 c.requires.1 c.turns.it c.turns.reasons c.turns.choices c.turns.skips c.turns.most c.turns.invariant.0 c.passes.made c.rules-test.it c.rules-test.reasons c.rules-test.why c.rules-test.out h)
+    let T = turn_at (goal.at.go_back-back-requires c).After-decide-turn (propagates (goal.at.go_back-back-requires c).Left-rules) in
+    ((depth T).1, chosen T)
 
 pub overflow_sub-i-in-Level : goal.overflow_sub-i-in-Level
 overflow_sub-i-in-Level c =
-    let h : Handed (taking c.args.t.now c.args.lists.now) c.args.tb.atoms c.turns.it c.turns.reasons c.passes.made c.rules-test.it c.rules-test.reasons c.rules-test.why c.rules-test.out = propagates (goal.at.overflow_sub-i-in-Level c).Left-rules in
-    let x = back c.args.t.now c.args.tb c.args.cycles c.args.lists.now c.args.limit c.requires.0 c.requires.1 c.turns.it c.turns.reasons c.turns.choices c.turns.skips c.turns.most c.turns.invariant.0 c.passes.made c.rules-test.it c.rules-test.reasons c.rules-test.why c.rules-test.out h c.greater-most.result c.greater-most.ensures c.in-Conflict-turn.spent (sym c.in-Conflict-turn.is ∙ c.decide-turn.ensures) c.blame-reason.result c.blame-reason.ensures c.in-Level.m c.in-Level.a c.in-Level.passed (sym c.in-Level.is ∙ c.go_back-back.ensures) in
+    let T = turn_at (goal.at.overflow_sub-i-in-Level c).After-decide-turn (propagates (goal.at.overflow_sub-i-in-Level c).Left-rules) in
+    let x = back T c.in-Conflict-turn.spent (sym c.in-Conflict-turn.is ∙ c.decide-turn.ensures) c.blame-reason.result c.blame-reason.ensures c.in-Level.m c.in-Level.a c.in-Level.passed (sym c.in-Level.is ∙ c.go_back-back.ensures) in
     x.4
 
 pub without-rest-requires : goal.without-rest-requires
 without-rest-requires c =
-    let h : Handed (taking c.args.t.now c.args.lists.now) c.args.tb.atoms c.turns.it c.turns.reasons c.passes.made c.rules-test.it c.rules-test.reasons c.rules-test.why c.rules-test.out = propagates (goal.at.without-rest-requires c).Left-rules in
-    let x = back c.args.t.now c.args.tb c.args.cycles c.args.lists.now c.args.limit c.requires.0 c.requires.1 c.turns.it c.turns.reasons c.turns.choices c.turns.skips c.turns.most c.turns.invariant.0 c.passes.made c.rules-test.it c.rules-test.reasons c.rules-test.why c.rules-test.out h c.greater-most.result c.greater-most.ensures c.in-Conflict-turn.spent (sym c.in-Conflict-turn.is ∙ c.decide-turn.ensures) c.blame-reason.result c.blame-reason.ensures c.in-Level.m c.in-Level.a c.in-Level.passed (sym c.in-Level.is ∙ c.go_back-back.ensures) in
+    let T = turn_at (goal.at.without-rest-requires c).After-decide-turn (propagates (goal.at.without-rest-requires c).Left-rules) in
+    let x = back T c.in-Conflict-turn.spent (sym c.in-Conflict-turn.is ∙ c.decide-turn.ensures) c.blame-reason.result c.blame-reason.ensures c.in-Level.m c.in-Level.a c.in-Level.passed (sym c.in-Level.is ∙ c.go_back-back.ensures) in
     omega (arith, x.0, x.1, x.6)
 
 pub offset_bounds-reasons-i-in-Level : goal.offset_bounds-reasons-i-in-Level
 offset_bounds-reasons-i-in-Level c =
-    let h : Handed (taking c.args.t.now c.args.lists.now) c.args.tb.atoms c.turns.it c.turns.reasons c.passes.made c.rules-test.it c.rules-test.reasons c.rules-test.why c.rules-test.out = propagates (goal.at.offset_bounds-reasons-i-in-Level c).Left-rules in
-    let x = back c.args.t.now c.args.tb c.args.cycles c.args.lists.now c.args.limit c.requires.0 c.requires.1 c.turns.it c.turns.reasons c.turns.choices c.turns.skips c.turns.most c.turns.invariant.0 c.passes.made c.rules-test.it c.rules-test.reasons c.rules-test.why c.rules-test.out h c.greater-most.result c.greater-most.ensures c.in-Conflict-turn.spent (sym c.in-Conflict-turn.is ∙ c.decide-turn.ensures) c.blame-reason.result c.blame-reason.ensures c.in-Level.m c.in-Level.a c.in-Level.passed (sym c.in-Level.is ∙ c.go_back-back.ensures) in
+    let T = turn_at (goal.at.offset_bounds-reasons-i-in-Level c).After-decide-turn (propagates (goal.at.offset_bounds-reasons-i-in-Level c).Left-rules) in
+    let x = back T c.in-Conflict-turn.spent (sym c.in-Conflict-turn.is ∙ c.decide-turn.ensures) c.blame-reason.result c.blame-reason.ensures c.in-Level.m c.in-Level.a c.in-Level.passed (sym c.in-Level.is ∙ c.go_back-back.ensures) in
     let y = x.5 in omega arith
 
 pub bounds-reasons-i-in-Level : goal.bounds-reasons-i-in-Level
 bounds-reasons-i-in-Level c =
-    let h : Handed (taking c.args.t.now c.args.lists.now) c.args.tb.atoms c.turns.it c.turns.reasons c.passes.made c.rules-test.it c.rules-test.reasons c.rules-test.why c.rules-test.out = propagates (goal.at.bounds-reasons-i-in-Level c).Left-rules in
-    let x = back c.args.t.now c.args.tb c.args.cycles c.args.lists.now c.args.limit c.requires.0 c.requires.1 c.turns.it c.turns.reasons c.turns.choices c.turns.skips c.turns.most c.turns.invariant.0 c.passes.made c.rules-test.it c.rules-test.reasons c.rules-test.why c.rules-test.out h c.greater-most.result c.greater-most.ensures c.in-Conflict-turn.spent (sym c.in-Conflict-turn.is ∙ c.decide-turn.ensures) c.blame-reason.result c.blame-reason.ensures c.in-Level.m c.in-Level.a c.in-Level.passed (sym c.in-Level.is ∙ c.go_back-back.ensures) in
+    let T = turn_at (goal.at.bounds-reasons-i-in-Level c).After-decide-turn (propagates (goal.at.bounds-reasons-i-in-Level c).Left-rules) in
+    let x = back T c.in-Conflict-turn.spent (sym c.in-Conflict-turn.is ∙ c.decide-turn.ensures) c.blame-reason.result c.blame-reason.ensures c.in-Level.m c.in-Level.a c.in-Level.passed (sym c.in-Level.is ∙ c.go_back-back.ensures) in
     omega (arith, x.4, x.5)
 
 pub overflow_cast-m : goal.overflow_cast-m
 overflow_cast-m c =
-    let h : Handed (taking c.args.t.now c.args.lists.now) c.args.tb.atoms c.turns.it c.turns.reasons c.passes.made c.rules-test.it c.rules-test.reasons c.rules-test.why c.rules-test.out = propagates (goal.at.overflow_cast-m c).Left-rules in
-    let x = back c.args.t.now c.args.tb c.args.cycles c.args.lists.now c.args.limit c.requires.0 c.requires.1 c.turns.it c.turns.reasons c.turns.choices c.turns.skips c.turns.most c.turns.invariant.0 c.passes.made c.rules-test.it c.rules-test.reasons c.rules-test.why c.rules-test.out h c.greater-most.result c.greater-most.ensures c.in-Conflict-turn.spent (sym c.in-Conflict-turn.is ∙ c.decide-turn.ensures) c.blame-reason.result c.blame-reason.ensures c.in-Level.m c.in-Level.a c.in-Level.passed (sym c.in-Level.is ∙ c.go_back-back.ensures) in
+    let T = turn_at (goal.at.overflow_cast-m c).After-decide-turn (propagates (goal.at.overflow_cast-m c).Left-rules) in
+    let x = back T c.in-Conflict-turn.spent (sym c.in-Conflict-turn.is ∙ c.decide-turn.ensures) c.blame-reason.result c.blame-reason.ensures c.in-Level.m c.in-Level.a c.in-Level.passed (sym c.in-Level.is ∙ c.go_back-back.ensures) in
     omega (arith, x.1, x.6)
 
 pub jump-it-requires : goal.jump-it-requires
 jump-it-requires c =
-    let h : Handed (taking c.args.t.now c.args.lists.now) c.args.tb.atoms c.turns.it c.turns.reasons c.passes.made c.rules-test.it c.rules-test.reasons c.rules-test.why c.rules-test.out = propagates (goal.at.jump-it-requires c).Left-rules in
-    let x = back c.args.t.now c.args.tb c.args.cycles c.args.lists.now c.args.limit c.requires.0 c.requires.1 c.turns.it c.turns.reasons c.turns.choices c.turns.skips c.turns.most c.turns.invariant.0 c.passes.made c.rules-test.it c.rules-test.reasons c.rules-test.why c.rules-test.out h c.greater-most.result c.greater-most.ensures c.in-Conflict-turn.spent (sym c.in-Conflict-turn.is ∙ c.decide-turn.ensures) c.blame-reason.result c.blame-reason.ensures c.in-Level.m c.in-Level.a c.in-Level.passed (sym c.in-Level.is ∙ c.go_back-back.ensures) in
+    let T = turn_at (goal.at.jump-it-requires c).After-decide-turn (propagates (goal.at.jump-it-requires c).Left-rules) in
+    let x = back T c.in-Conflict-turn.spent (sym c.in-Conflict-turn.is ∙ c.decide-turn.ensures) c.blame-reason.result c.blame-reason.ensures c.in-Level.m c.in-Level.a c.in-Level.passed (sym c.in-Level.is ∙ c.go_back-back.ensures) in
     let e = x.2 in let lo = x.4 in let hi = x.5 in (x.0, x.1, x.6, omega (arith, e, lo), omega (arith, e, hi))
 
 pub overflow_add-skips : goal.overflow_add-skips
 overflow_add-skips c =
-    let h : Handed (taking c.args.t.now c.args.lists.now) c.args.tb.atoms c.turns.it c.turns.reasons c.passes.made c.rules-test.it c.rules-test.reasons c.rules-test.why c.rules-test.out = propagates (goal.at.overflow_add-skips c).Left-rules in
-    let e = passed c.args.t.now c.args.tb c.args.cycles c.args.lists.now c.args.limit c.requires.0 c.requires.1 c.turns.it c.turns.reasons c.turns.choices c.turns.skips c.turns.most c.turns.invariant.0 c.passes.made c.rules-test.it c.rules-test.reasons c.rules-test.why c.rules-test.out h c.greater-most.result c.greater-most.ensures c.in-Conflict-turn.spent (sym c.in-Conflict-turn.is ∙ c.decide-turn.ensures) c.blame-reason.result c.blame-reason.ensures _ (sym c.in-End.is ∙ c.go_back-back.ensures) in
-    let d = (depth c.args.t.now c.args.tb c.args.cycles c.args.lists.now c.args.limit c.requires.0 c.requires.1 c.turns.it c.turns.reasons c.turns.choices c.turns.skips c.turns.most c.turns.invariant.0 c.passes.made c.rules-test.it c.rules-test.reasons c.rules-test.why c.rules-test.out h).0 in
+    let T = turn_at (goal.at.overflow_add-skips c).After-decide-turn (propagates (goal.at.overflow_add-skips c).Left-rules) in
+    let e = passed T c.in-Conflict-turn.spent (sym c.in-Conflict-turn.is ∙ c.decide-turn.ensures) c.blame-reason.result c.blame-reason.ensures _ (sym c.in-End.is ∙ c.go_back-back.ensures) in
+    let d = (depth T).0 in
     let v = c.turns.invariant.1 in
     let w = c.turns.invariant.2 in
     omega (arith, e, d, v, w, c.ranges.limit)
 
 pub overflow_add-skips-in-Level : goal.overflow_add-skips-in-Level
 overflow_add-skips-in-Level c =
-    let h : Handed (taking c.args.t.now c.args.lists.now) c.args.tb.atoms c.turns.it c.turns.reasons c.passes.made c.rules-test.it c.rules-test.reasons c.rules-test.why c.rules-test.out = propagates (goal.at.overflow_add-skips-in-Level c).Left-rules in
-    let e = (back c.args.t.now c.args.tb c.args.cycles c.args.lists.now c.args.limit c.requires.0 c.requires.1 c.turns.it c.turns.reasons c.turns.choices c.turns.skips c.turns.most c.turns.invariant.0 c.passes.made c.rules-test.it c.rules-test.reasons c.rules-test.why c.rules-test.out h c.greater-most.result c.greater-most.ensures c.in-Conflict-turn.spent (sym c.in-Conflict-turn.is ∙ c.decide-turn.ensures) c.blame-reason.result c.blame-reason.ensures c.in-Level.m c.in-Level.a c.in-Level.passed (sym c.in-Level.is ∙ c.go_back-back.ensures)).3 in
-    let d = (depth c.args.t.now c.args.tb c.args.cycles c.args.lists.now c.args.limit c.requires.0 c.requires.1 c.turns.it c.turns.reasons c.turns.choices c.turns.skips c.turns.most c.turns.invariant.0 c.passes.made c.rules-test.it c.rules-test.reasons c.rules-test.why c.rules-test.out h).0 in
+    let T = turn_at (goal.at.overflow_add-skips-in-Level c).After-decide-turn (propagates (goal.at.overflow_add-skips-in-Level c).Left-rules) in
+    let e = (back T c.in-Conflict-turn.spent (sym c.in-Conflict-turn.is ∙ c.decide-turn.ensures) c.blame-reason.result c.blame-reason.ensures c.in-Level.m c.in-Level.a c.in-Level.passed (sym c.in-Level.is ∙ c.go_back-back.ensures)).3 in
+    let d = (depth T).0 in
     let v = c.turns.invariant.1 in
     let w = c.turns.invariant.2 in
     omega (arith, e, d, v, w, c.ranges.limit)
@@ -473,26 +499,26 @@ overflow_add-skips-in-Level c =
 pub turns-smaller : goal.turns-smaller
 unfolding meas
 turns-smaller c =
-    let h : Handed (taking c.args.t.now c.args.lists.now) c.args.tb.atoms c.turns.it c.turns.reasons c.passes.made c.rules-test.it c.rules-test.reasons c.rules-test.why c.rules-test.out = propagates (goal.at.turns-smaller c).Left-rules in
+    let T = turn_at (goal.at.turns-smaller c).After-decide-turn (propagates (goal.at.turns-smaller c).Left-rules) in
     let len : length c.rules-test.reasons ≡ 256 = long (goal.at.turns-smaller c).Left-rules in
-    turn_less (problem c.args.cycles c.args.t.now c.args.tb c.args.lists.now) jump c.args.limit _ _ (jumps c.args.t.now c.args.tb c.args.cycles c.args.lists.now c.args.limit c.requires.0 c.requires.1 c.turns.it c.turns.reasons c.turns.choices c.turns.skips c.turns.most c.turns.invariant.0 c.passes.made c.rules-test.it c.rules-test.reasons c.rules-test.why c.rules-test.out h c.greater-most.result c.greater-most.ensures c.in-Conflict-turn.spent (sym c.in-Conflict-turn.is ∙ c.decide-turn.ensures) c.blame-reason.result c.blame-reason.ensures c.in-Level.m c.in-Level.a c.in-Level.passed (sym c.in-Level.is ∙ c.go_back-back.ensures) len _ c.without-rest.ensures _ c.jump-it.ensures [])
+    turn_less (problem c.args.cycles c.args.t.now.words.now c.args.t.now.places c.args.lists.now) jump c.args.limit _ _ (jumps T c.in-Conflict-turn.spent (sym c.in-Conflict-turn.is ∙ c.decide-turn.ensures) c.blame-reason.result c.blame-reason.ensures c.in-Level.m c.in-Level.a c.in-Level.passed (sym c.in-Level.is ∙ c.go_back-back.ensures) len _ c.without-rest.ensures _ c.jump-it.ensures [])
 
 pub turns-preserved : goal.turns-preserved
 turns-preserved c =
-    let h : Handed (taking c.args.t.now c.args.lists.now) c.args.tb.atoms c.turns.it c.turns.reasons c.passes.made c.rules-test.it c.rules-test.reasons c.rules-test.why c.rules-test.out = propagates (goal.at.turns-preserved c).Left-rules in
+    let T = turn_at (goal.at.turns-preserved c).After-decide-turn (propagates (goal.at.turns-preserved c).Left-rules) in
     let len : length c.rules-test.reasons ≡ 256 = long (goal.at.turns-preserved c).Left-rules in
     let q : c.jump-it.result.depth ≡ c.in-Level.m - 1 = ap (λ (s : state.Interpretation). s.level) c.jump-it.ensures in
-    let d = (depth c.args.t.now c.args.tb c.args.cycles c.args.lists.now c.args.limit c.requires.0 c.requires.1 c.turns.it c.turns.reasons c.turns.choices c.turns.skips c.turns.most c.turns.invariant.0 c.passes.made c.rules-test.it c.rules-test.reasons c.rules-test.why c.rules-test.out h).0 in
-    let x = back c.args.t.now c.args.tb c.args.cycles c.args.lists.now c.args.limit c.requires.0 c.requires.1 c.turns.it c.turns.reasons c.turns.choices c.turns.skips c.turns.most c.turns.invariant.0 c.passes.made c.rules-test.it c.rules-test.reasons c.rules-test.why c.rules-test.out h c.greater-most.result c.greater-most.ensures c.in-Conflict-turn.spent (sym c.in-Conflict-turn.is ∙ c.decide-turn.ensures) c.blame-reason.result c.blame-reason.ensures c.in-Level.m c.in-Level.a c.in-Level.passed (sym c.in-Level.is ∙ c.go_back-back.ensures) in
+    let d = (depth T).0 in
+    let x = back T c.in-Conflict-turn.spent (sym c.in-Conflict-turn.is ∙ c.decide-turn.ensures) c.blame-reason.result c.blame-reason.ensures c.in-Level.m c.in-Level.a c.in-Level.passed (sym c.in-Level.is ∙ c.go_back-back.ensures) in
     let lo = x.0 in
     let hi = x.1 in
     let sk = x.3 in
-    let k = spends c.args.t.now c.args.tb c.args.cycles c.args.lists.now c.args.limit c.requires.0 c.requires.1 c.turns.it c.turns.reasons c.turns.choices c.turns.skips c.turns.most c.turns.invariant.0 c.passes.made c.rules-test.it c.rules-test.reasons c.rules-test.why c.rules-test.out h c.greater-most.result c.greater-most.ensures _ (sym c.in-Conflict-turn.is ∙ c.decide-turn.ensures) in
+    let k = spends T _ (sym c.in-Conflict-turn.is ∙ c.decide-turn.ensures) in
     let v = c.turns.invariant.1 in
     let w = c.turns.invariant.2 in (
-      subst (Ordered c.args.tb.atoms) (sym c.jump-it.ensures) (ordered_jump c.args.tb.atoms (view c.rules-test.it) (ordered c.args.t.now c.args.tb c.args.cycles c.args.lists.now c.args.limit c.requires.0 c.requires.1 c.turns.it c.turns.reasons c.turns.choices c.turns.skips c.turns.most c.turns.invariant.0 c.passes.made c.rules-test.it c.rules-test.reasons c.rules-test.why c.rules-test.out h) (c.in-Level.m - 1) (omega (arith, lo, hi))),
+      subst (Ordered c.args.t.now.places.atoms) (sym c.jump-it.ensures) (ordered_jump c.args.t.now.places.atoms (view c.rules-test.it) (ordered T) (c.in-Level.m - 1) (omega (arith, lo, hi))),
       omega (arith, q, d, lo, hi, sk, v),
       omega (arith, k, w),
       simp length-set len,
-      λ s. (let i = c.turns.invariant.4 s in (over c.args.t.now c.args.tb c.args.cycles c.args.lists.now c.args.limit c.requires.0 c.requires.1 c.turns.it c.turns.reasons c.turns.choices c.turns.skips c.turns.most c.turns.invariant.0 c.passes.made c.rules-test.it c.rules-test.reasons c.rules-test.why c.rules-test.out h c.greater-most.result c.greater-most.ensures c.in-Conflict-turn.spent (sym c.in-Conflict-turn.is ∙ c.decide-turn.ensures) c.blame-reason.result c.blame-reason.ensures c.in-Level.m c.in-Level.a c.in-Level.passed (sym c.in-Level.is ∙ c.go_back-back.ensures) i.0, on i.1 (jumps c.args.t.now c.args.tb c.args.cycles c.args.lists.now c.args.limit c.requires.0 c.requires.1 c.turns.it c.turns.reasons c.turns.choices c.turns.skips c.turns.most c.turns.invariant.0 c.passes.made c.rules-test.it c.rules-test.reasons c.rules-test.why c.rules-test.out h c.greater-most.result c.greater-most.ensures c.in-Conflict-turn.spent (sym c.in-Conflict-turn.is ∙ c.decide-turn.ensures) c.blame-reason.result c.blame-reason.ensures c.in-Level.m c.in-Level.a c.in-Level.passed (sym c.in-Level.is ∙ c.go_back-back.ensures) len _ c.without-rest.ensures _ c.jump-it.ensures i.0))),
+      λ s. (let i = c.turns.invariant.4 s in (over T c.in-Conflict-turn.spent (sym c.in-Conflict-turn.is ∙ c.decide-turn.ensures) c.blame-reason.result c.blame-reason.ensures c.in-Level.m c.in-Level.a c.in-Level.passed (sym c.in-Level.is ∙ c.go_back-back.ensures) i.0, on i.1 (jumps T c.in-Conflict-turn.spent (sym c.in-Conflict-turn.is ∙ c.decide-turn.ensures) c.blame-reason.result c.blame-reason.ensures c.in-Level.m c.in-Level.a c.in-Level.passed (sym c.in-Level.is ∙ c.go_back-back.ensures) len _ c.without-rest.ensures _ c.jump-it.ensures i.0))),
     )

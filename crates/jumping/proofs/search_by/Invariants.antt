@@ -27,9 +27,9 @@ use Rattle.jumping.proofs.search_by.Given as goal
 abbrev pub invariant-rules : goal.invariant-rules
 invariant-rules l =
     (l.first ≤ l.r) × (length l.reasons ≡ 256) × Kept (view l.initial.it) (view l.it)
-    × (rule_pass (rules_at l.t l.lists l.r l.end) (work l.it l.reasons l.changed) ≡ rule_pass (taking l.t l.lists) (work l.initial.it l.initial.reasons false))
-    × (l.rules_to ≤ l.end) × (l.quiet ≤ l.end) × QuietRules l.t l.lists l.it.values l.quiet l.r × QuietRules l.t l.lists l.it.values l.rules_to l.end
-    × (l.atoms_to ≤ l.tb.atoms) × QuietAtoms l.t l.tb l.it.values l.atoms_to (suc l.tb.atoms)
+    × (rule_pass (rules_at l.t.words.now l.lists l.r l.end) (work l.it l.reasons l.changed) ≡ rule_pass (taking l.t.words.now l.lists) (work l.initial.it l.initial.reasons false))
+    × (l.rules_to ≤ l.end) × (l.quiet ≤ l.end) × QuietRules l.t.words.now l.lists l.it.values l.quiet l.r × QuietRules l.t.words.now l.lists l.it.values l.rules_to l.end
+    × (l.atoms_to ≤ l.t.places.atoms) × QuietAtoms l.t.words.now l.t.places l.it.values l.atoms_to (suc l.t.places.atoms)
 
 abbrev pub decreases-rules : goal.decreases-rules
 decreases-rules l = l.end - l.r
@@ -38,36 +38,36 @@ decreases-rules l = l.end - l.r
 abbrev pub invariant-sets : goal.invariant-sets
 invariant-sets l =
     (length l.reasons ≡ 256) × Kept (view l.initial.it) (view l.it)
-    × (step_e (some (rule_at l.t l.place)) (row l.whole) (work l.it l.reasons true) ≡ step_e (some (rule_at l.t l.place)) (row l.whole) (work l.initial.it l.initial.reasons true))
+    × (step_e (some (rule_at l.t.words.now l.place)) (row l.whole) (work l.it l.reasons true) ≡ step_e (some (rule_at l.t.words.now l.place)) (row l.whole) (work l.initial.it l.initial.reasons true))
 
 abbrev pub decreases-sets : goal.decreases-sets
-decreases-sets l = number l.tb.atoms (missing (cells l.it.values l.it.records))
+decreases-sets l = number l.t.places.atoms (missing (cells l.it.values l.it.records))
 
 abbrev pub invariant-atoms : goal.invariant-atoms
 invariant-atoms l =
-    (1 ≤ l.p) × (l.p ≤ suc l.tb.atoms) × (length l.reasons ≡ 256) × Kept (view l.initial.it) (view l.it)
-    × (atom_pass (program_of l.t l.tb) (suc l.tb.atoms - l.p) l.p (work l.it l.reasons l.changed) ≡ atom_pass (program_of l.t l.tb) l.tb.atoms 1 (work l.initial.it l.initial.reasons l.initial.changed))
-    × (l.rules_to ≤ l.end) × QuietRules l.t l.lists l.it.values l.rules_to l.end × (l.atoms_to ≤ l.tb.atoms) × (l.last < l.p)
-    × QuietAtoms l.t l.tb l.it.values l.last l.p × QuietAtoms l.t l.tb l.it.values l.atoms_to (suc l.tb.atoms)
+    (1 ≤ l.p) × (l.p ≤ suc l.t.places.atoms) × (length l.reasons ≡ 256) × Kept (view l.initial.it) (view l.it)
+    × (atom_pass (program_of l.t.words.now l.t.places) (suc l.t.places.atoms - l.p) l.p (work l.it l.reasons l.changed) ≡ atom_pass (program_of l.t.words.now l.t.places) l.t.places.atoms 1 (work l.initial.it l.initial.reasons l.initial.changed))
+    × (l.rules_to ≤ l.end) × QuietRules l.t.words.now l.lists l.it.values l.rules_to l.end × (l.atoms_to ≤ l.t.places.atoms) × (l.last < l.p)
+    × QuietAtoms l.t.words.now l.t.places l.it.values l.last l.p × QuietAtoms l.t.words.now l.t.places l.it.values l.atoms_to (suc l.t.places.atoms)
 
 abbrev pub decreases-atoms : goal.decreases-atoms
-decreases-atoms l = suc l.tb.atoms - l.p
+decreases-atoms l = suc l.t.places.atoms - l.p
 
 abbrev pub invariant-passes : goal.invariant-passes
 invariant-passes l =
     (length l.reasons ≡ 256) × Kept (view l.initial.it) (view l.it)
-    × ((f : ℕ) × (b : Bool) × (number l.tb.atoms (missing (cells l.it.values l.it.records)) < f) × (l.made + f ≡ suc (suc l.tb.atoms))
-    × (passes (taking l.t l.lists) l.tb.atoms f (work l.it l.reasons b) ≡ passes (taking l.t l.lists) l.tb.atoms (suc l.tb.atoms) (work l.initial.it l.initial.reasons false))
-    × (l.made + passes_made (taking l.t l.lists) l.tb.atoms f (work l.it l.reasons b) ≡ suc (passes_made (taking l.t l.lists) l.tb.atoms (suc l.tb.atoms) (work l.initial.it l.initial.reasons false))))
-    × (l.rules_to ≤ l.end) × QuietRules l.t l.lists l.it.values l.rules_to l.end × (l.atoms_to ≤ l.tb.atoms) × QuietAtoms l.t l.tb l.it.values l.atoms_to (suc l.tb.atoms)
+    × ((f : ℕ) × (b : Bool) × (number l.t.places.atoms (missing (cells l.it.values l.it.records)) < f) × (l.made + f ≡ suc (suc l.t.places.atoms))
+    × (passes (taking l.t.words.now l.lists) l.t.places.atoms f (work l.it l.reasons b) ≡ passes (taking l.t.words.now l.lists) l.t.places.atoms (suc l.t.places.atoms) (work l.initial.it l.initial.reasons false))
+    × (l.made + passes_made (taking l.t.words.now l.lists) l.t.places.atoms f (work l.it l.reasons b) ≡ suc (passes_made (taking l.t.words.now l.lists) l.t.places.atoms (suc l.t.places.atoms) (work l.initial.it l.initial.reasons false))))
+    × (l.rules_to ≤ l.end) × QuietRules l.t.words.now l.lists l.it.values l.rules_to l.end × (l.atoms_to ≤ l.t.places.atoms) × QuietAtoms l.t.words.now l.t.places l.it.values l.atoms_to (suc l.t.places.atoms)
 
 abbrev pub decreases-passes : goal.decreases-passes
-decreases-passes l = number l.tb.atoms (missing (cells l.it.values l.it.records))
+decreases-passes l = number l.t.places.atoms (missing (cells l.it.values l.it.records))
 
 abbrev pub invariant-turns : goal.invariant-turns
 invariant-turns l =
-    Ordered l.tb.atoms (view l.it) × (l.skips + l.it.depth ≤ l.choices) × (l.choices ≤ l.limit) × (length l.reasons ≡ 256)
-    × ((s : List Branch) → (g : List Branch) × Led (problem l.cycles l.t l.tb l.lists) l.limit (config l.initial.it l.initial.reasons l.initial.choices l.initial.skips l.initial.most s) (config l.it l.reasons l.choices l.skips l.most g))
+    Ordered l.t.places.atoms (view l.it) × (l.skips + l.it.depth ≤ l.choices) × (l.choices ≤ l.limit) × (length l.reasons ≡ 256)
+    × ((s : List Branch) → (g : List Branch) × Led (problem l.cycles l.t.words.now l.t.places l.lists) l.limit (config l.initial.it l.initial.reasons l.initial.choices l.initial.skips l.initial.most s) (config l.it l.reasons l.choices l.skips l.most g))
 
 abbrev pub decreases-turns : goal.decreases-turns
-decreases-turns l = (l.limit - l.choices) * suc l.tb.atoms + l.it.depth
+decreases-turns l = (l.limit - l.choices) * suc l.t.places.atoms + l.it.depth

@@ -1,12 +1,8 @@
 -- `levels::highest` meets its contract. Assumes nothing.
 use mathlib.Core.Path.{◌≡◌}
-use Prim.Native.Nat.{◌≤◌}
 use Rattle.levels.specs.Levels.{highest}
 use Rattle.levels.specs.View.{row}
 use Rattle.levels.proofs.highest.Given as goal
 
 abbrev pub invariant-loop-l : goal.invariant-loop-l
-invariant-loop-l l = (l.l ≤ l.k) × (highest (row l.a) l.l ≡ highest (row l.a) l.k)
-
-abbrev pub decreases-loop-l : goal.decreases-loop-l
-decreases-loop-l l = l.l
+invariant-loop-l l = highest (row l.a) l.l ≡ highest (row l.a) l.k

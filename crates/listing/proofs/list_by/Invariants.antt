@@ -11,8 +11,8 @@ use Rattle.listing.proofs.list_by.Given as goal
 
 abbrev pub invariant-loop-plan : goal.invariant-loop-plan
 invariant-loop-plan l =
-    Ready l.tb.atoms l.limit l.from × (l.number ≤ length l.initial.rows / 256) × (length l.rows ≡ length l.initial.rows)
-    × Done (base_by l.cycles (taking l.t l.lists) l.tb.atoms) l.limit (length l.initial.rows / 256) l.initial.rows l.rows l.from l.reasons l.number
+    Ready l.t.places.atoms l.limit l.from × (l.number ≤ length l.initial.rows / 256) × (length l.rows ≡ length l.initial.rows)
+    × Done (base_by l.cycles (taking l.t.words.now l.lists) l.t.places.atoms) l.limit (length l.initial.rows / 256) l.initial.rows l.rows l.from l.reasons l.number
 
 abbrev pub decreases-loop-plan : goal.decreases-loop-plan
-decreases-loop-plan l = (l.limit - l.from.choices) * suc l.tb.atoms + l.from.it.depth
+decreases-loop-plan l = (l.limit - l.from.choices) * suc l.t.places.atoms + l.from.it.depth

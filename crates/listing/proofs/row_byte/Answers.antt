@@ -1,14 +1,21 @@
 -- `listing::row_byte` meets its contract. Assumes nothing.
-use mathlib.Core.Path.{sym, ap}
+use mathlib.Core.Path.{◌≡◌, refl, ◌∙◌}
+use mathlib.Core.Bool.{Bool, true, false}
+use mir.Val.{bool_byte}
 use Rattle.listing.specs.Rows.{bit_by}
-use Rattle.listing.proofs.Written.{truth_one, truth_other, truth_past}
+use Rattle.listing.proofs.Written.{byte_held, byte_past}
 use Rattle.listing.proofs.row_byte.Goals as goal
+use Rattle.listing.proofs.row_byte.Goals.{then-i-n, else-i-n}
 
-pub returns-then-values-i-eq1 : goal.returns-then-values-i-eq1
-returns-then-values-i-eq1 c = let a = c.args in sym (ap bit_by (truth_one a.n a.values.now a.i c.if-i-n.true c.if-values-i-eq1.true))
+bit : (b : Bool) → bool_byte b ≡ bit_by b
+bit true = refl
+bit false = refl
 
-pub returns-else-values-i-eq1 : goal.returns-else-values-i-eq1
-returns-else-values-i-eq1 c = let a = c.args in sym (ap bit_by (truth_other a.n a.values.now a.i c.if-i-n.true c.if-values-i-eq1.false))
-
-pub returns-else-i-n : goal.returns-else-i-n
-returns-else-i-n c = let a = c.args in sym (ap bit_by (truth_past a.n a.values.now a.i c.if-i-n.false))
+pub returns : goal.returns
+returns c =
+    let a = c.args in
+    let e = c.from.ensures ∙ bit c.if-i-n.from in
+    elim c.if-i-n.branch [
+      | then-i-n w ↦ byte_held a.n a.values.now a.i c.from.result c.if-i-n.from e w.from-is w.if-i-n.true
+      | else-i-n w ↦ byte_past a.n a.values.now a.i c.from.result c.if-i-n.from e w.from-is w.if-i-n.false
+    ]

@@ -1,26 +1,25 @@
 -- `literals::atoms_reason` meets its contract. Assumes nothing.
-use mathlib.Core.Path.{ap, ◌∙◌}
-use Prim.Native.Nat.{ℕ}
-use native.Mathlib.Omega.{arith}
-use lib.ListN.{length}
-use Rattle.levels.specs.Levels.{union}
+use Rattle.std.proofs.Common.{rules, ◌≡◌, ℕ, ◌+◌, nat_abs, pos, get_or, drop, sym, ap, ◌∙◌}
+use Rattle.levels.specs.Levels.{Levels, union}
 use Rattle.levels.specs.View.{row, rows}
 use Rattle.interpretation.specs.View.{valued}
+use Rattle.layout.specs.Layout.{atoms}
 use Rattle.valuing.specs.Reasons.{reason_at}
-use Rattle.literals.proofs.Walks.{atoms_down, atoms_end}
+use Rattle.literals.specs.Scan.{atoms_reason}
+use Rattle.literals.proofs.Walks.{atoms_on, atoms_end}
 use Rattle.literals.proofs.atoms_reason.Goals as goal
 
-pub loop-i-init : goal.loop-i-init
-loop-i-init c = (omega arith, atoms_end c.args.l.now (length c.args.l.now) _ _ _ (omega arith))
-
-pub loop-i-preserved : goal.loop-i-preserved
-loop-i-preserved c =
+pub loop-w-preserved : goal.loop-w-preserved
+loop-w-preserved c =
     let a = c.args in
-    let A = row c.loop-i.acc in
+    let i = c.loop-w.w-index in
     let X = valued a.values.now in
-    let R = rows a.reasons.now in (
-      omega arith,
-      c.atom_reason-next.ensures
-          ∙ ap (λ (p : ℕ). union (reason_at (X p) (R p)) A) c.atom-p.ensures
-          ∙ atoms_down a.l.now c.loop-i.i X R (row a.more) c.loop-i-test.true c.loop-i.invariant.0 A c.loop-i.invariant.1,
-    )
+    let R = rows a.reasons.now in
+    let read : c.size.result ≡ nat_abs (get_or a.l.now i (pos 0)) = search rules in
+    let next = c.atom_reason-next.ensures ∙ ap (λ (p : ℕ). union (reason_at (X p) (R p)) (row c.loop-w.acc)) read in
+    ap (λ (S : Levels). union (atoms_reason X R (atoms (drop (i + 1) a.l.now))) S) next ∙ atoms_on a.l.now i X R c.loop-w-test.true (row c.loop-w.acc) ∙ c.loop-w.invariant
+
+pub returns : goal.returns
+returns c =
+    let a = c.args in
+    sym (atoms_end a.l.now c.loop-w.w-index (valued a.values.now) (rows a.reasons.now) c.loop-w-test.false (row c.loop-w.acc)) ∙ c.loop-w.invariant

@@ -19,4 +19,4 @@ returns c =
     let X = valued a.values.now in
     let R = rows a.reasons.now in
     c.aggregate_reason.ensures
-    ∙ ap (λ (i : ℕ). union (reasons_at R (settling_of X (aggregate_at a.t.now i))) (row a.more)) (c.start-at.ensures ∙ place a.t.now a.tb p.0 a.l.now p.1 a.k p.2)
+    ∙ ap (λ (i : ℕ). union (reasons_at R (settling_of X (aggregate_at a.t.now.words.now i))) (row a.more)) (c.start-at.ensures ∙ place a.t.now.words.now a.t.now.places c.args.t.now.laid a.l.now p.0 a.k p.1)

@@ -1,6 +1,7 @@
 -- `literals::literal_value` meets its contract. Assumes nothing.
 use mathlib.Core.Path.{ap, ◌∙◌}
 use mathlib.Core.Bool.{Bool}
+use Rattle.std.proofs.Common.{rules, int_le, to_z, of_z, w32, ◌≡◌}
 use Prim.Native.Nat.{ℕ}
 use lib.IntN.{pos}
 use lib.ListN.{get_or}
@@ -17,6 +18,7 @@ returns c =
     let a = c.args in
     let p = c.requires in
     let X = valued a.values.now in
-    c.signed.ensures ∙ ap (λ (b : Bool). signed b c.aggregate_value-v.result) c.plain.ensures
+    let sign : int_le (pos 0) (to_z w32 (of_z w32 (get_or a.l.now a.k (pos 0)))) ≡ non_neg (get_or a.l.now a.k (pos 0)) = search rules in
+    c.signed.ensures ∙ ap (λ (b : Bool). signed b c.aggregate_value-v.result) sign
     ∙ ap (signed (non_neg (get_or a.l.now a.k (pos 0)))) (c.aggregate_value-v.ensures
-    ∙ ap (λ (i : ℕ). aggregate_value X (aggregate_at a.t.now i)) (c.start-at.ensures ∙ place a.t.now a.tb p.0 a.l.now p.1 a.k p.2))
+    ∙ ap (λ (i : ℕ). aggregate_value X (aggregate_at a.t.now.words.now i)) (c.start-at.ensures ∙ place a.t.now.words.now a.t.now.places c.args.t.now.laid a.l.now p.0 a.k p.1))

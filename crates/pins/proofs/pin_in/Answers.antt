@@ -10,7 +10,7 @@ use lib.IntN.{ℤ}
 use lib.ListN.{length}
 use Rattle.meaning.specs.Cycles.{inside}
 use Rattle.results.specs.declared.Refusal.TheVariants.{PinNumber, PinTwice, PinsFull}
-use Rattle.results.specs.declared.Pinned.TheVariants as changed
+use Rattle.std.specs.Prelude.{Ok, Err}
 use Rattle.sessions.specs.Sessions.{pin, is_held, refusal}
 use Rattle.sessions.proofs.Held.{taken_e}
 use Rattle.pins.specs.Memory.{atoms_in, pins_to, pins_in, held_in}
@@ -25,7 +25,7 @@ returns-then-not-is_inside c =
     let a = c.args in
     ap (λ (n : ℕ). inside n a.atom) (sym c.number-n.ensures) ∙ sym c.is_inside.ensures ∙ e in
     let a = c.args in
-    changing_refused (pin a.atom a.value) a.s.now (changed.Refused PinNumber) 20
+    changing_refused (pin a.atom a.value) a.s.now (Err PinNumber) 20
     (refusal_by (atoms_in a.s.now) (pins_in a.s.now) a.atom a.value false _ _ (within false (c.if-not-is_inside.true)) refl refl) refl
 
 pub is_held-requires : goal.is_held-requires
@@ -44,7 +44,7 @@ returns-then-is_held c =
     let a = c.args in
     ap (λ (k : ℕ). is_held a.atom (pins_to a.s.now k)) (sym c.number-held.ensures) ∙ sym c.is_held.ensures ∙ e in
     let a = c.args in
-    changing_refused (pin a.atom a.value) a.s.now (changed.Refused PinTwice) 21
+    changing_refused (pin a.atom a.value) a.s.now (Err PinTwice) 21
     (refusal_by (atoms_in a.s.now) (pins_in a.s.now) a.atom a.value true true _ inner (again true c.if-is_held.true) refl) refl
 
 pub returns-then-held-gt63 : goal.returns-then-held-gt63
@@ -62,7 +62,7 @@ returns-then-held-gt63 c =
     let a = c.args in
     let k = c.if-held-gt63.true in
     let e = many in
-    changing_refused (pin a.atom a.value) a.s.now (changed.Refused PinsFull) 22
+    changing_refused (pin a.atom a.value) a.s.now (Err PinsFull) 22
     (refusal_by (atoms_in a.s.now) (pins_in a.s.now) a.atom a.value true false true inner (again false c.if-is_held.false) (lt-ltb 63 (length (pins_in a.s.now)) (omega arith))) refl
 
 pub push-requires : goal.push-requires
@@ -106,4 +106,4 @@ returns c =
     let e = many in
     refusal_by (atoms_in a.s.now) (pins_in a.s.now) a.atom a.value true false false inner (again false c.if-is_held.false) (le-ltb 63 (length (pins_in a.s.now)) (omega arith)) in
     let a = c.args in
-    subst (λ (u : List ℤ). Changing (pin a.atom a.value) a.s.now u changed.Done) (sym c.push.ensures) (changing_pin a.s.now c.requires a.atom a.value free)
+    subst (λ (u : List ℤ). Changing (pin a.atom a.value) a.s.now u (Ok tt)) (sym c.push.ensures) (changing_pin a.s.now c.requires a.atom a.value free)

@@ -1,5 +1,6 @@
 -- `pins::plan_in` meets its contract: the judge's refusal, or the report of the defined jumping search with the pins, with what explains its plan. Assumes nothing.
-use mathlib.Core.Path.{◌≡◌, sym, ap, ◌∙◌, subst}
+use Rattle.std.specs.Prelude.{Ok, Err}
+use mathlib.Core.Path.{◌≡◌, refl, sym, ap, ◌∙◌, subst}
 use mathlib.Core.Bool.{Bool}
 use mathlib.Core.List.{List}
 use Prim.Native.Nat.{ℕ}
@@ -8,18 +9,16 @@ use lib.IntN.{ℤ}
 use lib.ListN.{length, take}
 use lib.Seq.{length-take-le}
 use Rattle.meaning.specs.Program.{Program}
-use Rattle.results.specs.declared.Solved.TheVariants as solved
 use Rattle.results.specs.Results.{number_of, place_of}
 use Rattle.layout.specs.Layout.{program_of}
 use Rattle.heads.proofs.Taking.{whole_rules}
-use Rattle.table.specs.Contents.{Contents, program}
+use Rattle.table.specs.Contents.{program}
 use Rattle.table.proofs.Accepted.{accepted_atoms}
 use Rattle.search.specs.Search.{jump, solve}
 use Rattle.smaller.specs.Cyclic.{problem_by}
 use Rattle.jumping.specs.Jumping.{end_of}
 use Rattle.judging.specs.declared.Buffer.TheVariants.{Plan}
 use Rattle.judging.specs.Refusals.{AcceptedBy, RefusedBy}
-use Rattle.judging.specs.Judging.{Placed}
 use Rattle.judging.proofs.Judged.{plan_wide, judged_refused, judged_taken}
 use Rattle.rounds.specs.Rounds.{why_of, Recorded}
 use Rattle.promises.specs.Plans.{plan_atoms}
@@ -40,61 +39,57 @@ slice_bounds-words-end c =
     let l = c.requires in
     sym (length-take-le c.number-count.result c.args.s.now (omega arith))
 
+pub invariant_of-t : goal.invariant_of-t
+invariant_of-t c =
+    record { laid = (judged_taken (take c.number-count.result c.args.s.now) (Plan (length c.args.plan.now)) (Ok c.in-Ok.places) c.in-Ok.places c.in-Ok.ensures.0 refl).2.laid }
+
 pub search-found-requires : goal.search-found-requires
 search-found-requires c =
-    let taken : let a = c.args in
-    (d : Contents) × AcceptedBy c.takes_cycles-cycles.result (take c.number-count.result a.s.now) (Plan (length a.plan.now)) d × Placed (take c.number-count.result a.s.now) c.judge_in-judged.result.table d =
     let a = c.args in
-    judged_taken (take c.number-count.result a.s.now) (Plan (length a.plan.now)) c.judge_in-judged.result c.judge_in-judged.ensures.0 c.in-Nothing.is in
-    (taken.2.laid, (c.judge_in-judged.ensures.1 c.in-Nothing.is).listed, c.requires)
+    let tb = c.in-Ok.places in
+    let j = c.in-Ok.ensures in
+    ((j.1 tb refl).listed, c.requires)
 
 pub report-solved-requires : goal.report-solved-requires
 report-solved-requires c =
-    let taken : let a = c.args in
-    (d : Contents) × AcceptedBy c.takes_cycles-cycles.result (take c.number-count.result a.s.now) (Plan (length a.plan.now)) d × Placed (take c.number-count.result a.s.now) c.judge_in-judged.result.table d =
     let a = c.args in
-    judged_taken (take c.number-count.result a.s.now) (Plan (length a.plan.now)) c.judge_in-judged.result c.judge_in-judged.ensures.0 c.in-Nothing.is in
-    let x = taken in
+    let tb = c.in-Ok.places in
+    let x = judged_taken (take c.number-count.result a.s.now) (Plan (length a.plan.now)) (Ok tb) tb c.in-Ok.ensures.0 refl in
     let f = x.2.laid.few_atoms in
     let w = plan_wide _ x.1.buffer in
     (f, omega arith)
 
 pub whys_by-whys-requires : goal.whys_by-whys-requires
 whys_by-whys-requires c =
-    let taken : let a = c.args in
-    (d : Contents) × AcceptedBy c.takes_cycles-cycles.result (take c.number-count.result a.s.now) (Plan (length a.plan.now)) d × Placed (take c.number-count.result a.s.now) c.judge_in-judged.result.table d =
     let a = c.args in
-    judged_taken (take c.number-count.result a.s.now) (Plan (length a.plan.now)) c.judge_in-judged.result c.judge_in-judged.ensures.0 c.in-Nothing.is in
-    let n = c.judge_in-judged.result.table.atoms in
-    (taken.2.laid, λ h. c.search-found.ensures.2 (answer_ended n c.search-found.result c.report-solved.result c.report-solved.ensures.0 h))
+    let tb = c.in-Ok.places in
+    let taken = judged_taken (take c.number-count.result a.s.now) (Plan (length a.plan.now)) (Ok tb) tb c.in-Ok.ensures.0 refl in
+    (λ h. c.search-found.ensures.2 (answer_ended tb.atoms c.search-found.result c.report-solved.result c.report-solved.ensures.0 h))
 
-pub returns-in-Refused : goal.returns-in-Refused
-returns-in-Refused c =
-    let judged : let a = c.args in take c.number-count.result a.s.now ≡ table_in a.s.now = let a = c.args in ap (λ (k : ℕ). take k a.s.now) c.number-count.ensures in
-    let m = c.takes_cycles-cycles.result in
+pub returns-in-Err : goal.returns-in-Err
+returns-in-Err c =
     let a = c.args in
+    let f = c.in-Err.f in
+    let judged : take c.number-count.result a.s.now ≡ table_in a.s.now = ap (λ (k : ℕ). take k a.s.now) c.number-count.ensures in
+    let m = c.takes_cycles-cycles.result in
     let b = Plan (length a.plan.now) in
-    let h = subst (λ (t : List ℤ). RefusedBy m t b (number_of c.in-Refused.f) (place_of c.in-Refused.f)) judged
-    (judged_refused (take c.number-count.result a.s.now) b c.judge_in-judged.result c.in-Refused.f c.judge_in-judged.ensures.0 c.in-Refused.is) in
-    subst (λ (y : Bool). PlansOn y (table_in a.s.now) (pins_in a.s.now) a.limit a.plan.now a.plan.now (record { solved = solved.Refused c.in-Refused.f; whys = c.nothing-whys.result }))
+    let h = subst (λ (t : List ℤ). RefusedBy m t b (number_of f) (place_of f)) judged (judged_refused (take c.number-count.result a.s.now) b (Err f) f c.in-Err.ensures.0 refl) in
+    subst (λ (y : Bool). PlansOn y (table_in a.s.now) (pins_in a.s.now) a.limit a.plan.now a.plan.now (record { solved = Err f; whys = c.nothing-whys.result }))
     c.takes_cycles-cycles.ensures (
-      planning_refused m (table_in a.s.now) (pins_in a.s.now) a.limit a.plan.now c.in-Refused.f h,
-      explains_refused m (table_in a.s.now) b a.plan.now c.in-Refused.f c.nothing-whys.result c.nothing-whys.ensures,
+      planning_refused m (table_in a.s.now) (pins_in a.s.now) a.limit a.plan.now f h,
+      explains_refused m (table_in a.s.now) b a.plan.now f c.nothing-whys.result c.nothing-whys.ensures,
     )
 
-pub returns-in-Nothing : goal.returns-in-Nothing
-returns-in-Nothing c =
-    let taken : let a = c.args in
-    (d : Contents) × AcceptedBy c.takes_cycles-cycles.result (take c.number-count.result a.s.now) (Plan (length a.plan.now)) d × Placed (take c.number-count.result a.s.now) c.judge_in-judged.result.table d =
+pub returns-in-Ok : goal.returns-in-Ok
+returns-in-Ok c =
     let a = c.args in
-    judged_taken (take c.number-count.result a.s.now) (Plan (length a.plan.now)) c.judge_in-judged.result c.judge_in-judged.ensures.0 c.in-Nothing.is in
-    let judged : let a = c.args in take c.number-count.result a.s.now ≡ table_in a.s.now = let a = c.args in ap (λ (k : ℕ). take k a.s.now) c.number-count.ensures in
-    let m = c.takes_cycles-cycles.result in
-    let a = c.args in
-    let tb = c.judge_in-judged.result.table in
     let t = take c.number-count.result a.s.now in
+    let judged : t ≡ table_in a.s.now = ap (λ (k : ℕ). take k a.s.now) c.number-count.ensures in
+    let m = c.takes_cycles-cycles.result in
+    let tb = c.in-Ok.places in
+    let j = c.in-Ok.ensures in
     let pins = pins_in a.s.now in
-    let x = taken in
+    let x = judged_taken t (Plan (length a.plan.now)) (Ok tb) tb j.0 refl in
     let d = x.0 in
     let p = x.2 in
     let h = subst (λ (u : List ℤ). AcceptedBy m u (Plan (length a.plan.now)) d) judged x.1 in
@@ -105,12 +100,12 @@ returns-in-Nothing c =
     let o = end_of tb.atoms c.search-found.result g.0 in
     let e : solve (problem_by m (program d) d.atoms (pins_of (taken_of d.atoms pins))) jump a.limit ≡ _ =
     ap (λ (i : ℕ). solve (problem_by m (program d) i (pins_of (taken_of i pins))) jump a.limit) (sym p.atoms)
-    ∙ ap (λ (P : Program). solve (problem_by m P tb.atoms (pins_of (taken_of tb.atoms pins))) jump a.limit) (sym (whole_rules t tb _ (c.judge_in-judged.ensures.1 c.in-Nothing.is) ∙ p.rules)) ∙ g.1 in
-    let z = planning_accepted m (table_in a.s.now) pins a.limit a.plan.now new q d h o e c.report-solved.ensures.0
+    ∙ ap (λ (P : Program). solve (problem_by m P tb.atoms (pins_of (taken_of tb.atoms pins))) jump a.limit) (sym (whole_rules t tb _ (j.1 tb refl) ∙ p.rules)) ∙ g.1 in
+    let z = planning_accepted m (table_in a.s.now) pins a.limit a.plan.now new (Ok q) d h o e (ap Ok c.report-solved.ensures.0)
     (c.report-solved.ensures.1 ∙ ap (λ (i : ℕ). plan_after i o.result a.plan.now) p.atoms) in
     let w = subst (Recorded c.whys_by-whys.result)
     (whys_written_by m tb.atoms (program_of t tb) c.search-found.result a.plan.now new q c.report-solved.ensures.0 c.report-solved.ensures.1
     ∙ ap (λ (P : Program). whys_by m q (why_of P tb.atoms (plan_atoms tb.atoms new))) p.rules ∙ ap (λ (i : ℕ). whys_by m q (why_of (program d) i (plan_atoms i new))) p.atoms)
     c.whys_by-whys.ensures in
-    subst (λ (y : Bool). PlansOn y (table_in a.s.now) pins a.limit a.plan.now new (record { solved = q; whys = c.whys_by-whys.result })) c.takes_cycles-cycles.ensures
+    subst (λ (y : Bool). PlansOn y (table_in a.s.now) pins a.limit a.plan.now new (record { solved = Ok q; whys = c.whys_by-whys.result })) c.takes_cycles-cycles.ensures
     (z, explains_accepted m (table_in a.s.now) a.limit a.plan.now new d h A (Agrees (program d) (taken_of d.atoms pins)) (λ Y i. i.is_answer) c.whys_by-whys.result q (z.meaning d h) w)

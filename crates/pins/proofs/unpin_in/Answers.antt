@@ -5,7 +5,7 @@ use native.Mathlib.Omega.{arith}
 use mathlib.Core.List.{List}
 use lib.IntN.{ℤ}
 use Rattle.results.specs.declared.Refusal.TheVariants.{NoPin}
-use Rattle.results.specs.declared.Pinned.TheVariants as changed
+use Rattle.std.specs.Prelude.{Ok, Err}
 use Rattle.sessions.specs.Sessions.{unpin}
 use Rattle.pins.specs.Memory.{atoms_in, held_in}
 use Rattle.pins.specs.Session.{Changing}
@@ -18,7 +18,7 @@ returns-then-held-lt1 c =
     let a = c.args in
     let h = c.if-held-lt1.true in
     let e = c.number-held.ensures in
-    changing_refused unpin a.s.now (changed.Refused NoPin) 23 (unpin_refused (atoms_in a.s.now) a.s.now (omega arith)) refl
+    changing_refused unpin a.s.now (Err NoPin) 23 (unpin_refused (atoms_in a.s.now) a.s.now (omega arith)) refl
 
 pub pop-requires : goal.pop-requires
 pop-requires c =
@@ -33,4 +33,4 @@ returns c =
     let h = c.if-held-lt1.false in
     let e = c.number-held.ensures in
     let k : 0 < held_in a.s.now = omega arith in
-    subst (λ (u : List ℤ). Changing unpin a.s.now u changed.Done) (sym c.pop.ensures) (changing_unpin a.s.now c.requires (unpin_taken (atoms_in a.s.now) a.s.now k) k)
+    subst (λ (u : List ℤ). Changing unpin a.s.now u (Ok tt)) (sym c.pop.ensures) (changing_unpin a.s.now c.requires (unpin_taken (atoms_in a.s.now) a.s.now k) k)

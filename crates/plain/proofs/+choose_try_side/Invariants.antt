@@ -7,7 +7,7 @@ use Rattle.plain.specs.Passes.{undefined_to}
 use Rattle.plain.proofs.+choose_try_side.Given as goal
 
 abbrev pub decreases-choose : goal.decreases-choose
-decreases-choose l = 2 * undefined_to l.tb.atoms (valued l.side.values)
+decreases-choose l = 2 * undefined_to l.t.now.places.atoms (valued l.side.values)
 
 abbrev pub decreases-try_side : goal.decreases-try_side
-decreases-try_side l = 2 * undefined_to l.tb.atoms (valued l.side.values) + 1
+decreases-try_side l = 2 * undefined_to l.t.now.places.atoms (valued l.side.values) + 1

@@ -17,57 +17,57 @@ use Rattle.plain.proofs.tested.Goals as goal
 pub overflow_add-side : goal.overflow_add-side
 overflow_add-side c =
     let over-all : let a = c.args in
-    test_by a.ask.cycles (program_of a.t.now a.tb) a.tb.atoms (a.ask.limit - a.side.choices) (true_atoms a.tb.atoms (valued a.side.values)) ≡ tested_of c.test-found.result =
+    test_by a.ask.cycles (program_of a.t.now.words.now a.t.now.places) a.t.now.places.atoms (a.ask.limit - a.side.choices) (true_atoms a.t.now.places.atoms (valued a.side.values)) ≡ tested_of c.test-found.result =
     let a = c.args in
-    ap (λ (P : Program). test_by a.ask.cycles P a.tb.atoms (a.ask.limit - a.side.choices) (true_atoms a.tb.atoms (valued a.side.values))) (sym (whole_rules a.t.now a.tb _ c.requires.whole)) ∙ sym c.test-found.ensures in
+    ap (λ (P : Program). test_by a.ask.cycles P a.t.now.places.atoms (a.ask.limit - a.side.choices) (true_atoms a.t.now.places.atoms (valued a.side.values))) (sym (whole_rules a.t.now.words.now a.t.now.places _ c.requires.whole)) ∙ sym c.test-found.ensures in
     let passes : let a = c.args in
-    test_by a.ask.cycles (program_of a.t.now a.tb) a.tb.atoms (a.ask.limit - a.side.choices) (true_atoms a.tb.atoms (valued a.side.values)) ≡ passed c.in-Passed.spent = over-all ∙ ap tested_of c.in-Passed.is in
+    test_by a.ask.cycles (program_of a.t.now.words.now a.t.now.places) a.t.now.places.atoms (a.ask.limit - a.side.choices) (true_atoms a.t.now.places.atoms (valued a.side.values)) ≡ passed c.in-Passed.spent = over-all ∙ ap tested_of c.in-Passed.is in
     let a = c.args in
-    let s = spends a.ask.cycles a.t.now a.tb (atoms_in_lem a.t.now a.tb c.requires.laid) a.ask.limit a.side.values a.side.choices c.requires.few (passed c.in-Passed.spent) passes in
+    let s = spends a.ask.cycles a.t.now.words.now a.t.now.places (atoms_in_lem a.t.now.words.now a.t.now.places c.requires.laid) a.ask.limit a.side.values a.side.choices c.requires.few (passed c.in-Passed.spent) passes in
     omega (arith, s)
 
 pub overflow_add-side-in-Failed : goal.overflow_add-side-in-Failed
 overflow_add-side-in-Failed c =
     let over-all : let a = c.args in
-    test_by a.ask.cycles (program_of a.t.now a.tb) a.tb.atoms (a.ask.limit - a.side.choices) (true_atoms a.tb.atoms (valued a.side.values)) ≡ tested_of c.test-found.result =
+    test_by a.ask.cycles (program_of a.t.now.words.now a.t.now.places) a.t.now.places.atoms (a.ask.limit - a.side.choices) (true_atoms a.t.now.places.atoms (valued a.side.values)) ≡ tested_of c.test-found.result =
     let a = c.args in
-    ap (λ (P : Program). test_by a.ask.cycles P a.tb.atoms (a.ask.limit - a.side.choices) (true_atoms a.tb.atoms (valued a.side.values))) (sym (whole_rules a.t.now a.tb _ c.requires.whole)) ∙ sym c.test-found.ensures in
+    ap (λ (P : Program). test_by a.ask.cycles P a.t.now.places.atoms (a.ask.limit - a.side.choices) (true_atoms a.t.now.places.atoms (valued a.side.values))) (sym (whole_rules a.t.now.words.now a.t.now.places _ c.requires.whole)) ∙ sym c.test-found.ensures in
     let fails : let a = c.args in
-    test_by a.ask.cycles (program_of a.t.now a.tb) a.tb.atoms (a.ask.limit - a.side.choices) (true_atoms a.tb.atoms (valued a.side.values)) ≡ failed c.in-Failed.spent = over-all ∙ ap tested_of c.in-Failed.is in
+    test_by a.ask.cycles (program_of a.t.now.words.now a.t.now.places) a.t.now.places.atoms (a.ask.limit - a.side.choices) (true_atoms a.t.now.places.atoms (valued a.side.values)) ≡ failed c.in-Failed.spent = over-all ∙ ap tested_of c.in-Failed.is in
     let a = c.args in
-    let s = spends a.ask.cycles a.t.now a.tb (atoms_in_lem a.t.now a.tb c.requires.laid) a.ask.limit a.side.values a.side.choices c.requires.few (failed c.in-Failed.spent) fails in
+    let s = spends a.ask.cycles a.t.now.words.now a.t.now.places (atoms_in_lem a.t.now.words.now a.t.now.places c.requires.laid) a.ask.limit a.side.values a.side.choices c.requires.few (failed c.in-Failed.spent) fails in
     omega (arith, s)
 
 pub returns-in-Passed : goal.returns-in-Passed
 returns-in-Passed c =
     let over-all : let a = c.args in
-    test_by a.ask.cycles (program_of a.t.now a.tb) a.tb.atoms (a.ask.limit - a.side.choices) (true_atoms a.tb.atoms (valued a.side.values)) ≡ tested_of c.test-found.result =
+    test_by a.ask.cycles (program_of a.t.now.words.now a.t.now.places) a.t.now.places.atoms (a.ask.limit - a.side.choices) (true_atoms a.t.now.places.atoms (valued a.side.values)) ≡ tested_of c.test-found.result =
     let a = c.args in
-    ap (λ (P : Program). test_by a.ask.cycles P a.tb.atoms (a.ask.limit - a.side.choices) (true_atoms a.tb.atoms (valued a.side.values))) (sym (whole_rules a.t.now a.tb _ c.requires.whole)) ∙ sym c.test-found.ensures in
+    ap (λ (P : Program). test_by a.ask.cycles P a.t.now.places.atoms (a.ask.limit - a.side.choices) (true_atoms a.t.now.places.atoms (valued a.side.values))) (sym (whole_rules a.t.now.words.now a.t.now.places _ c.requires.whole)) ∙ sym c.test-found.ensures in
     let passes : let a = c.args in
-    test_by a.ask.cycles (program_of a.t.now a.tb) a.tb.atoms (a.ask.limit - a.side.choices) (true_atoms a.tb.atoms (valued a.side.values)) ≡ passed c.in-Passed.spent = over-all ∙ ap tested_of c.in-Passed.is in
+    test_by a.ask.cycles (program_of a.t.now.words.now a.t.now.places) a.t.now.places.atoms (a.ask.limit - a.side.choices) (true_atoms a.t.now.places.atoms (valued a.side.values)) ≡ passed c.in-Passed.spent = over-all ∙ ap tested_of c.in-Passed.is in
     let a = c.args in
-    passes_test a.ask.cycles a.t.now a.tb (atoms_in_lem a.t.now a.tb c.requires.laid) a.ask.limit a.side.values a.side.choices c.requires.few a.plan.now
+    passes_test a.ask.cycles a.t.now.words.now a.t.now.places (atoms_in_lem a.t.now.words.now a.t.now.places c.requires.laid) a.ask.limit a.side.values a.side.choices c.requires.few a.plan.now
     c.counted.result c.in-Passed.spent passes c.counted.ensures _ c.write.ensures
 
 pub returns-in-Failed : goal.returns-in-Failed
 returns-in-Failed c =
     let over-all : let a = c.args in
-    test_by a.ask.cycles (program_of a.t.now a.tb) a.tb.atoms (a.ask.limit - a.side.choices) (true_atoms a.tb.atoms (valued a.side.values)) ≡ tested_of c.test-found.result =
+    test_by a.ask.cycles (program_of a.t.now.words.now a.t.now.places) a.t.now.places.atoms (a.ask.limit - a.side.choices) (true_atoms a.t.now.places.atoms (valued a.side.values)) ≡ tested_of c.test-found.result =
     let a = c.args in
-    ap (λ (P : Program). test_by a.ask.cycles P a.tb.atoms (a.ask.limit - a.side.choices) (true_atoms a.tb.atoms (valued a.side.values))) (sym (whole_rules a.t.now a.tb _ c.requires.whole)) ∙ sym c.test-found.ensures in
+    ap (λ (P : Program). test_by a.ask.cycles P a.t.now.places.atoms (a.ask.limit - a.side.choices) (true_atoms a.t.now.places.atoms (valued a.side.values))) (sym (whole_rules a.t.now.words.now a.t.now.places _ c.requires.whole)) ∙ sym c.test-found.ensures in
     let fails : let a = c.args in
-    test_by a.ask.cycles (program_of a.t.now a.tb) a.tb.atoms (a.ask.limit - a.side.choices) (true_atoms a.tb.atoms (valued a.side.values)) ≡ failed c.in-Failed.spent = over-all ∙ ap tested_of c.in-Failed.is in
+    test_by a.ask.cycles (program_of a.t.now.words.now a.t.now.places) a.t.now.places.atoms (a.ask.limit - a.side.choices) (true_atoms a.t.now.places.atoms (valued a.side.values)) ≡ failed c.in-Failed.spent = over-all ∙ ap tested_of c.in-Failed.is in
     let a = c.args in
-    fails_test a.ask.cycles a.t.now a.tb (atoms_in_lem a.t.now a.tb c.requires.laid) a.ask.limit a.side.values a.side.choices c.requires.few a.plan.now
+    fails_test a.ask.cycles a.t.now.words.now a.t.now.places (atoms_in_lem a.t.now.words.now a.t.now.places c.requires.laid) a.ask.limit a.side.values a.side.choices c.requires.few a.plan.now
     c.counted-in-Failed.result c.in-Failed.spent fails c.counted-in-Failed.ensures
 
 pub returns-in-Exhausted : goal.returns-in-Exhausted
 returns-in-Exhausted c =
     let over-all : let a = c.args in
-    test_by a.ask.cycles (program_of a.t.now a.tb) a.tb.atoms (a.ask.limit - a.side.choices) (true_atoms a.tb.atoms (valued a.side.values)) ≡ tested_of c.test-found.result =
+    test_by a.ask.cycles (program_of a.t.now.words.now a.t.now.places) a.t.now.places.atoms (a.ask.limit - a.side.choices) (true_atoms a.t.now.places.atoms (valued a.side.values)) ≡ tested_of c.test-found.result =
     let a = c.args in
-    ap (λ (P : Program). test_by a.ask.cycles P a.tb.atoms (a.ask.limit - a.side.choices) (true_atoms a.tb.atoms (valued a.side.values))) (sym (whole_rules a.t.now a.tb _ c.requires.whole)) ∙ sym c.test-found.ensures in
+    ap (λ (P : Program). test_by a.ask.cycles P a.t.now.places.atoms (a.ask.limit - a.side.choices) (true_atoms a.t.now.places.atoms (valued a.side.values))) (sym (whole_rules a.t.now.words.now a.t.now.places _ c.requires.whole)) ∙ sym c.test-found.ensures in
     let a = c.args in
-    limit_test a.ask.cycles a.t.now a.tb (atoms_in_lem a.t.now a.tb c.requires.laid) a.ask.limit a.side.values a.side.choices c.requires.few a.plan.now
+    limit_test a.ask.cycles a.t.now.words.now a.t.now.places (atoms_in_lem a.t.now.words.now a.t.now.places c.requires.laid) a.ask.limit a.side.values a.side.choices c.requires.few a.plan.now
     c.counted-in-Exhausted.result (over-all ∙ ap tested_of c.in-Exhausted.is) c.counted-in-Exhausted.ensures

@@ -9,5 +9,5 @@ pub returns : goal.returns
 returns c =
     let a = c.args in
     c.union.ensures
-    ∙ ap (λ (A : Levels). union A (row c.blame-others.result)) (sym (rows_at a.reasons.now a.p c.requires.2))
+    ∙ ap (λ (A : Levels). union A (row c.blame-others.result)) (sym (rows_at a.reasons.now a.p c.requires.1))
     ∙ ap (union (rows a.reasons.now a.p)) c.blame-others.ensures

@@ -7,4 +7,4 @@ use Rattle.relaxer.proofs.attempt.Goals as goal
 pub returns : goal.returns
 returns c =
     let a = c.args in
-    (refl, searched a.cycles a.limit a.t.now a.tb (row a.kept) c.choose.new.lists c.search-found.result c.choose.ensures.1 c.search-found.ensures, c.choose.ensures.0)
+    (refl, searched a.cycles a.limit a.t.now.words.now a.t.now.places (row a.kept) c.choose.new.lists c.search-found.result c.choose.ensures.1 c.search-found.ensures, c.choose.ensures.0)

@@ -1,5 +1,4 @@
--- `relaxer::offer_all` meets its contract. The invariant of its loop: what offering the rules to come makes of what is held is what the definition comes to. The measure is
--- the number of rules to come. Assumes nothing.
+-- `relaxer::offer_all` meets its contract. The invariant of its loop: what offering the rules to come makes of what is held is what the definition comes to. Assumes nothing.
 use mathlib.Core.Path.{◌≡◌}
 use Prim.Native.Nat.{suc, ◌-◌, ◌≤◌}
 use Rattle.layout.specs.Layout.{rules_from, program_of, RulesLie}
@@ -10,8 +9,5 @@ use Rattle.relaxer.proofs.offer_all.Given as goal
 
 abbrev pub invariant-loop-i : goal.invariant-loop-i
 invariant-loop-i l =
-    (l.i ≤ l.tb.rules) × Listed l.t l.tb l.lists × RulesLie l.tb.atoms l.tb.aggregates l.t l.at (l.tb.rules - l.i)
-    × (goes_on (trial l.cycles l.tb.atoms l.limit) (program_of l.t l.tb) l.tb.atoms l.held (suc l.i) (rules_from l.t l.at (l.tb.rules - l.i)) ≡ relax l.cycles l.tb.atoms l.limit (program_of l.t l.tb))
-
-abbrev pub decreases-loop-i : goal.decreases-loop-i
-decreases-loop-i l = l.tb.rules - l.i
+    Listed l.t.words.now l.t.places l.lists × RulesLie l.t.places.atoms l.t.places.aggregates l.t.words.now l.at (l.t.places.rules - l.i)
+    × (goes_on (trial l.cycles l.t.places.atoms l.limit) (program_of l.t.words.now l.t.places) l.t.places.atoms l.held (suc l.i) (rules_from l.t.words.now l.at (l.t.places.rules - l.i)) ≡ relax l.cycles l.t.places.atoms l.limit (program_of l.t.words.now l.t.places))

@@ -1,5 +1,5 @@
 -- `relaxer::write_dropped` meets its contract. The invariant of its loop: the n numbers that stand at the front of the list, and those to come, are all numbers dropped;
--- the rest of the list stays. The measure is the number of rules to come. Assumes nothing.
+-- the rest of the list stays. Assumes nothing.
 use mathlib.Core.Path.{◌≡◌}
 use mathlib.Core.List.{◌++◌}
 use Prim.Native.Nat.{suc, ◌-◌, ◌≤◌}
@@ -11,8 +11,5 @@ use Rattle.relaxer.proofs.write_dropped.Given as goal
 
 abbrev pub invariant-loop-i : goal.invariant-loop-i
 invariant-loop-i l =
-    (l.i ≤ l.tb.rules) × (l.n ≤ l.i) × (length l.dropped ≡ length l.initial.dropped) × (drop l.n l.dropped ≡ drop l.n l.initial.dropped) × RulesLie l.tb.atoms l.tb.aggregates l.t l.at (l.tb.rules - l.i)
-    × (take l.n l.dropped ++ dropped_from (row l.kept) (suc l.i) (rules_from l.t l.at (l.tb.rules - l.i)) ≡ dropped_of (program_of l.t l.tb) (row l.kept))
-
-abbrev pub decreases-loop-i : goal.decreases-loop-i
-decreases-loop-i l = l.tb.rules - l.i
+    (l.n ≤ l.i) × (length l.dropped ≡ length l.initial.dropped) × (drop l.n l.dropped ≡ drop l.n l.initial.dropped) × RulesLie l.fn.t.places.atoms l.fn.t.places.aggregates l.t.words.now l.at (l.fn.t.places.rules - l.i)
+    × (take l.n l.dropped ++ dropped_from (row l.kept) (suc l.i) (rules_from l.t.words.now l.at (l.fn.t.places.rules - l.i)) ≡ dropped_of (program_of l.t.words.now l.fn.t.places) (row l.kept))

@@ -1,57 +1,34 @@
--- `rules::literals_ask` meets its contract. The invariant of its loop: the literals from index k on ask what all of them ask, so those passed are true.
--- The measure is the number of literals still to come.
+-- `rules::literals_ask` meets its contract: what the chain finds of the indices in order is what the literals ask, one by one.
 -- Assumes nothing.
-use mathlib.Core.Path.{◌≡◌, sym, ◌∙◌}
-use Prim.Native.Nat.{◌+◌}
+use mathlib.Core.Path.{◌≡◌, sym, ap, ◌∙◌}
+use mathlib.Core.Bool.{Bool, cond}
+use Rattle.std.proofs.Common.{rules, length, map}
 use native.Mathlib.Omega.{arith}
-use lib.IntN.{pos}
-use lib.ListN.{get_or, drop}
+use Rattle.std.proofs.lemmas.Iterator.{YieldsList-from_range}
+use Rattle.std.proofs.lemmas.Iterator.Search.{all_from_yields_List}
+use Rattle.std.specs.List.{list_all, range_with_len}
 use Rattle.interpretation.specs.View.{valued}
-use Rattle.interpretation.specs.declared.Value.{Value}
 use Rattle.valuing.specs.Values.{agg_lit}
 use Rattle.layout.specs.Layout.{literal_of}
-use Rattle.literals.specs.Scan.{literal_lits}
-use Rattle.rules.specs.Demand.{ask_of, together, asks}
-use Rattle.rules.proofs.Scanned.{asks_on, asks_end}
+use Rattle.rules.specs.declared.Step.TheVariants.{Nothing, Conflict}
+use Rattle.rules.proofs.Asks.{asks_literals}
+use Rattle.rules.proofs.Scanned.{true_at, all_true_at}
 use Rattle.rules.proofs.literals_ask.Goals as goal
 
-pub returns-in-False : goal.returns-in-False
-returns-in-False c =
-    let ahead : (v : Value)
-    → c.literal_value-v.result ≡ v
-    → let a = c.args in
-    asks (valued a.values.now) (literal_lits a.t.now a.l.now)
-    ≡ together (ask_of v (agg_lit (literal_of a.t.now (get_or a.l.now c.loop-k.k (pos 0))))) (asks (valued a.values.now) (literal_lits a.t.now (drop (c.loop-k.k + 1) a.l.now))) = λ v e.
+pub returns-then-all : goal.returns-then-all
+returns-then-all c =
     let a = c.args in
-    sym c.loop-k.invariant.1
-    ∙ asks_on (literal_of a.t.now) agg_lit (valued a.values.now) a.l.now c.loop-k.k c.loop-k-test.true v (sym c.literal_value-v.ensures ∙ e) in
-    sym (ahead _ c.in-False.is)
+    let n = length a.l.now in
+    let found : c.all.result ≡ list_all (true_at (literal_of a.t.now.words.now) agg_lit (valued a.values.now) a.l.now) (range_with_len 0 n) =
+    all_from_yields_List (true_at (literal_of a.t.now.words.now) agg_lit (valued a.values.now) a.l.now) _ _ _ c.all.ensures.ran (YieldsList-from_range 0 n n (cc) (omega arith)) (λ x b q k. search rules) in
+    ap (λ (b : Bool). cond b Conflict Nothing) (sym c.if-all.true ∙ found ∙ all_true_at (literal_of a.t.now.words.now) agg_lit (valued a.values.now) a.l.now)
+    ∙ sym (asks_literals (valued a.values.now) (map (literal_of a.t.now.words.now) a.l.now))
 
-pub returns-in-Undefined : goal.returns-in-Undefined
-returns-in-Undefined c =
-    let ahead : (v : Value)
-    → c.literal_value-v.result ≡ v
-    → let a = c.args in
-    asks (valued a.values.now) (literal_lits a.t.now a.l.now)
-    ≡ together (ask_of v (agg_lit (literal_of a.t.now (get_or a.l.now c.loop-k.k (pos 0))))) (asks (valued a.values.now) (literal_lits a.t.now (drop (c.loop-k.k + 1) a.l.now))) = λ v e.
+pub returns-else-all : goal.returns-else-all
+returns-else-all c =
     let a = c.args in
-    sym c.loop-k.invariant.1
-    ∙ asks_on (literal_of a.t.now) agg_lit (valued a.values.now) a.l.now c.loop-k.k c.loop-k-test.true v (sym c.literal_value-v.ensures ∙ e) in
-    sym (ahead _ c.in-Undefined.is)
-
-pub loop-k-preserved : goal.loop-k-preserved
-loop-k-preserved c =
-    let ahead : (v : Value)
-    → c.literal_value-v.result ≡ v
-    → let a = c.args in
-    asks (valued a.values.now) (literal_lits a.t.now a.l.now)
-    ≡ together (ask_of v (agg_lit (literal_of a.t.now (get_or a.l.now c.loop-k.k (pos 0))))) (asks (valued a.values.now) (literal_lits a.t.now (drop (c.loop-k.k + 1) a.l.now))) = λ v e.
-    let a = c.args in
-    sym c.loop-k.invariant.1
-    ∙ asks_on (literal_of a.t.now) agg_lit (valued a.values.now) a.l.now c.loop-k.k c.loop-k-test.true v (sym c.literal_value-v.ensures ∙ e) in
-    (omega arith, sym (ahead _ c.in-True.is))
-
-pub returns : goal.returns
-returns c =
-    let a = c.args in
-    sym (asks_end (literal_of a.t.now) agg_lit (valued a.values.now) a.l.now c.loop-k.k c.loop-k-test.false) ∙ c.loop-k.invariant.1
+    let n = length a.l.now in
+    let found : c.all.result ≡ list_all (true_at (literal_of a.t.now.words.now) agg_lit (valued a.values.now) a.l.now) (range_with_len 0 n) =
+    all_from_yields_List (true_at (literal_of a.t.now.words.now) agg_lit (valued a.values.now) a.l.now) _ _ _ c.all.ensures.ran (YieldsList-from_range 0 n n (cc) (omega arith)) (λ x b q k. search rules) in
+    ap (λ (b : Bool). cond b Conflict Nothing) (sym c.if-all.false ∙ found ∙ all_true_at (literal_of a.t.now.words.now) agg_lit (valued a.values.now) a.l.now)
+    ∙ sym (asks_literals (valued a.values.now) (map (literal_of a.t.now.words.now) a.l.now))

@@ -83,33 +83,33 @@ module _ (Q : Program) (n : ℕ) (X : Atoms) (vs ls xs : List ℕ) (d : ℕ) (us
 -- ---- the goals
 
 pub start-requires : goal.start-requires
-start-requires c = (c.requires.0.few_atoms, (length-replicate {A = ℕ} 256 0, length-replicate {A = ℕ} 256 0), cells_blank 256 (map record_at (replicate 256 0)))
+start-requires c = (c.args.t.now.laid.few_atoms, (length-replicate {A = ℕ} 256 0, length-replicate {A = ℕ} 256 0), cells_blank 256 (map record_at (replicate 256 0)))
 
 pub loop-p-init : goal.loop-p-init
 loop-p-init c =
     let a = c.args in
-    let Y = true_atoms a.tb.atoms (valued a.candidate.now) in
-    let B = part_in a.t.now a.tb c.requires.0 a.places.now c.requires.1 in
-    let e : view_of c.start.new.values c.start.new.levels (replicate 256 0) 0 ≡ start_of a.tb.atoms Y = λ t. record { level = 0; choice = choices_none (replicate 256 0) t; cell = c.start.ensures.1 t } in (
+    let Y = true_atoms a.t.now.places.atoms (valued a.candidate.now) in
+    let B = part_in a.t.now.words.now a.t.now.places c.args.t.now.laid a.places.now c.requires.0 in
+    let e : view_of c.start.new.values c.start.new.levels (replicate 256 0) 0 ≡ start_of a.t.now.places.atoms Y = λ t. record { level = 0; choice = choices_none (replicate 256 0) t; cell = c.start.ensures.1 t } in (
       c.start.ensures.0,
       length-replicate {A = ℕ} 256 0,
-      subst (Ordered a.tb.atoms) (sym e) (ordered_start a.tb.atoms Y),
-      (B, stands_start a.tb.atoms (map (rule_at a.t.now) a.places.now) B Y _ (sym e)),
+      subst (Ordered a.t.now.places.atoms) (sym e) (ordered_start a.t.now.places.atoms Y),
+      (B, stands_start a.t.now.places.atoms (map (rule_at a.t.now.words.now) a.places.now) B Y _ (sym e)),
     )
 
 pub returns-in-Smaller : goal.returns-in-Smaller
 returns-in-Smaller c =
     let a = c.args in let l = c.loop-p in let q = c.propagate-made in
-    smaller (map (rule_at a.t.now) a.places.now) a.tb.atoms (true_atoms a.tb.atoms (valued a.candidate.now)) l.values l.levels l.chosen l.depth q.new.values q.new.levels q.result.changed q.result.conflict
+    smaller (map (rule_at a.t.now.words.now) a.places.now) a.t.now.places.atoms (true_atoms a.t.now.places.atoms (valued a.candidate.now)) l.values l.levels l.chosen l.depth q.new.values q.new.levels q.result.changed q.result.conflict
     q.ensures.1 l.invariant.3.0 l.invariant.2 l.invariant.3.1 (sym c.in-Smaller.is ∙ c.decide-turn.ensures)
 
 pub opened-depth-requires : goal.opened-depth-requires
 opened-depth-requires c =
     let a = c.args in let l = c.loop-p in let q = c.propagate-made in
     let h =
-    picked (map (rule_at a.t.now) a.places.now) a.tb.atoms (true_atoms a.tb.atoms (valued a.candidate.now)) l.values l.levels l.chosen l.depth q.new.values q.new.levels q.result.changed q.result.conflict
+    picked (map (rule_at a.t.now.words.now) a.places.now) a.t.now.places.atoms (true_atoms a.t.now.places.atoms (valued a.candidate.now)) l.values l.levels l.chosen l.depth q.new.values q.new.levels q.result.changed q.result.conflict
     q.ensures.1 l.invariant.3.0 l.invariant.2 l.invariant.3.1 c.in-Choose.p (sym c.in-Choose.is ∙ c.decide-turn.ensures) in
-    let w = c.requires.0.few_atoms in
+    let w = c.args.t.now.laid.few_atoms in
     let i = h.inside in
     let j = h.deeper in
     (h.above, omega (arith, w, i), omega (arith, w, i, j), q.ensures.0, l.invariant.1)
@@ -117,7 +117,7 @@ opened-depth-requires c =
 pub loop-p-smaller-in-Choose : goal.loop-p-smaller-in-Choose
 loop-p-smaller-in-Choose c =
     let a = c.args in let l = c.loop-p in let q = c.propagate-made in
-    (opens (map (rule_at a.t.now) a.places.now) a.tb.atoms (true_atoms a.tb.atoms (valued a.candidate.now)) l.values l.levels l.chosen l.depth q.new.values q.new.levels q.result.changed q.result.conflict
+    (opens (map (rule_at a.t.now.words.now) a.places.now) a.t.now.places.atoms (true_atoms a.t.now.places.atoms (valued a.candidate.now)) l.values l.levels l.chosen l.depth q.new.values q.new.levels q.result.changed q.result.conflict
     q.ensures.1 l.invariant.3.0 l.invariant.2 l.invariant.3.1 c.in-Choose.p (sym c.in-Choose.is ∙ c.decide-turn.ensures)
     (view_of c.opened-depth.new.values c.opened-depth.new.levels c.opened-depth.new.chosen c.opened-depth.result) c.opened-depth.ensures.2).less
 
@@ -125,7 +125,7 @@ pub loop-p-preserved-in-Choose : goal.loop-p-preserved-in-Choose
 loop-p-preserved-in-Choose c =
     let a = c.args in let l = c.loop-p in let q = c.propagate-made in
     let g =
-    opens (map (rule_at a.t.now) a.places.now) a.tb.atoms (true_atoms a.tb.atoms (valued a.candidate.now)) l.values l.levels l.chosen l.depth q.new.values q.new.levels q.result.changed q.result.conflict
+    opens (map (rule_at a.t.now.words.now) a.places.now) a.t.now.places.atoms (true_atoms a.t.now.places.atoms (valued a.candidate.now)) l.values l.levels l.chosen l.depth q.new.values q.new.levels q.result.changed q.result.conflict
     q.ensures.1 l.invariant.3.0 l.invariant.2 l.invariant.3.1 c.in-Choose.p (sym c.in-Choose.is ∙ c.decide-turn.ensures)
     (view_of c.opened-depth.new.values c.opened-depth.new.levels c.opened-depth.new.chosen c.opened-depth.result) c.opened-depth.ensures.2 in
     (c.opened-depth.ensures.0, c.opened-depth.ensures.1, g.ordered, (l.invariant.3.0, g.stands))
@@ -133,14 +133,14 @@ loop-p-preserved-in-Choose c =
 pub returns-then-depth-eq0 : goal.returns-then-depth-eq0
 returns-then-depth-eq0 c =
     let a = c.args in let l = c.loop-p in let q = c.propagate-made in
-    stops (map (rule_at a.t.now) a.places.now) a.tb.atoms (true_atoms a.tb.atoms (valued a.candidate.now)) l.values l.levels l.chosen l.depth q.new.values q.new.levels q.result.changed q.result.conflict
+    stops (map (rule_at a.t.now.words.now) a.places.now) a.t.now.places.atoms (true_atoms a.t.now.places.atoms (valued a.candidate.now)) l.values l.levels l.chosen l.depth q.new.values q.new.levels q.result.changed q.result.conflict
     q.ensures.1 l.invariant.3.0 l.invariant.2 l.invariant.3.1 (sym c.in-Back.is ∙ c.decide-turn.ensures) c.if-depth-eq0.true
 
 pub loop-p-smaller : goal.loop-p-smaller
 loop-p-smaller c =
     let a = c.args in let l = c.loop-p in let q = c.propagate-made in
     let h = c.if-depth-eq0.false in
-    (flips (map (rule_at a.t.now) a.places.now) a.tb.atoms (true_atoms a.tb.atoms (valued a.candidate.now)) l.values l.levels l.chosen l.depth q.new.values q.new.levels q.result.changed q.result.conflict
+    (flips (map (rule_at a.t.now.words.now) a.places.now) a.t.now.places.atoms (true_atoms a.t.now.places.atoms (valued a.candidate.now)) l.values l.levels l.chosen l.depth q.new.values q.new.levels q.result.changed q.result.conflict
     q.ensures.1 l.invariant.3.0 l.invariant.2 l.invariant.3.1 (sym c.in-Back.is ∙ c.decide-turn.ensures) (omega (arith, h))
     (view_of c.flipped-depth.new.values c.flipped-depth.new.levels l.chosen c.flipped-depth.result) c.flipped-depth.ensures.1).less
 
@@ -149,7 +149,17 @@ loop-p-preserved c =
     let a = c.args in let l = c.loop-p in let q = c.propagate-made in
     let h = c.if-depth-eq0.false in
     let g =
-    flips (map (rule_at a.t.now) a.places.now) a.tb.atoms (true_atoms a.tb.atoms (valued a.candidate.now)) l.values l.levels l.chosen l.depth q.new.values q.new.levels q.result.changed q.result.conflict
+    flips (map (rule_at a.t.now.words.now) a.places.now) a.t.now.places.atoms (true_atoms a.t.now.places.atoms (valued a.candidate.now)) l.values l.levels l.chosen l.depth q.new.values q.new.levels q.result.changed q.result.conflict
     q.ensures.1 l.invariant.3.0 l.invariant.2 l.invariant.3.1 (sym c.in-Back.is ∙ c.decide-turn.ensures) (omega (arith, h))
     (view_of c.flipped-depth.new.values c.flipped-depth.new.levels l.chosen c.flipped-depth.result) c.flipped-depth.ensures.1 in
     (c.flipped-depth.ensures.0, l.invariant.1, g.ordered, (l.invariant.3.0, g.stands))
+
+pub flipped-depth-requires : goal.flipped-depth-requires
+flipped-depth-requires c =
+    let l = c.loop-p in
+    let w = c.args.t.now.laid.few_atoms in
+    let k : 1 ≤ l.depth = omega (arith, c.if-depth-eq0.false) in
+    let i = l.invariant.2.inside l.depth k (omega arith) in
+    let a = i.0 in
+    let b = i.1 in
+    (k, omega (arith, w, a, b), omega (arith, k, a), omega (arith, w, b), c.propagate-made.ensures.0)

@@ -17,8 +17,8 @@ use Rattle.second_search.proofs.has_smaller.Given as goal
 
 abbrev pub invariant-loop-p : goal.invariant-loop-p
 invariant-loop-p l =
-    Whole l.values l.levels × (length l.chosen ≡ 256) × Ordered l.tb.atoms (view_of l.values l.levels l.chosen l.depth)
-    × ((A : AtomsIn l.tb.atoms (map (rule_at l.t) l.places)) × Stands l.tb.atoms (map (rule_at l.t) l.places) A (true_atoms l.tb.atoms (valued l.candidate)) (view_of l.values l.levels l.chosen l.depth))
+    Whole l.values l.levels × (length l.chosen ≡ 256) × Ordered l.t.places.atoms (view_of l.values l.levels l.chosen l.depth)
+    × ((A : AtomsIn l.t.places.atoms (map (rule_at l.t.words.now) l.places)) × Stands l.t.places.atoms (map (rule_at l.t.words.now) l.places) A (true_atoms l.t.places.atoms (valued l.candidate)) (view_of l.values l.levels l.chosen l.depth))
 
 abbrev pub decreases-loop-p : goal.decreases-loop-p
-decreases-loop-p l = Room l.tb.atoms true (view_of l.values l.levels l.chosen l.depth) * 2 + l.depth
+decreases-loop-p l = Room l.t.places.atoms true (view_of l.values l.levels l.chosen l.depth) * 2 + l.depth

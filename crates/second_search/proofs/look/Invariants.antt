@@ -16,8 +16,8 @@ use Rattle.second_search.proofs.look.Given as goal
 
 abbrev pub invariant-loop-p : goal.invariant-loop-p
 invariant-loop-p l =
-    Whole l.values l.levels × (length l.chosen ≡ 256) × Ordered l.tb.atoms (view_of l.values l.levels l.chosen l.depth) × (l.choices ≤ l.left)
-    × Stands (second (map (rule_at l.t) l.places) l.tb.atoms (true_atoms l.tb.atoms (valued l.candidate))) l.left (view_of l.values l.levels l.chosen l.depth) l.choices
+    Whole l.values l.levels × (length l.chosen ≡ 256) × Ordered l.t.places.atoms (view_of l.values l.levels l.chosen l.depth) × (l.choices ≤ l.left)
+    × Stands (second (map (rule_at l.t.words.now) l.places) l.t.places.atoms (true_atoms l.t.places.atoms (valued l.candidate))) l.left (view_of l.values l.levels l.chosen l.depth) l.choices
 
 abbrev pub decreases-loop-p : goal.decreases-loop-p
-decreases-loop-p l = (l.left - l.choices) * suc l.tb.atoms + l.depth
+decreases-loop-p l = (l.left - l.choices) * suc l.t.places.atoms + l.depth

@@ -12,4 +12,4 @@ returns c =
     let at-start = c.start in
     let at-put-aggregate = c.put_aggregate-after_aggregate in
     let at-put2 = c.put in
-    rw (aggregate_is args.t.now args.tb pre.0 args.j at-start.result pre.1 at-start.ensures) at (put_then at-put-name.ensures (put_then at-put.ensures (put_then at-put-aggregate.ensures at-put2.ensures)))
+    rw (aggregate_is args.t.now.words.now args.t.now.places c.args.t.now.laid args.j at-start.result pre at-start.ensures) at (put_then at-put-name.ensures (put_then at-put.ensures (put_then at-put-aggregate.ensures at-put2.ensures)))

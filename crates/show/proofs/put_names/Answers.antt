@@ -13,7 +13,7 @@ loop-j-preserved c =
     let at-loop = c.loop-j in
     let at-loop-test = c.loop-j-test in
     let at-put-named = c.put_named-to in
-    (omega arith, left_step (names_on (held_by args.t.now args.tb).aggregates args.d at-loop.j (omega (arith, held_long args.t.now args.tb, pre.1)) at-loop-test.true) at-loop.invariant.1 at-put-named.ensures)
+    (omega arith, left_step (names_on (held_by args.t.now.words.now args.t.now.places).aggregates args.d at-loop.j (omega (arith, held_long args.t.now.words.now args.t.now.places, pre)) at-loop-test.true) at-loop.invariant.1 at-put-named.ensures)
 
 pub returns : goal.returns
 returns c =
@@ -21,4 +21,4 @@ returns c =
     let pre = c.requires in
     let at-loop = c.loop-j in
     let at-loop-test = c.loop-j-test in
-    left_done (names_none (held_by args.t.now args.tb).aggregates args.d at-loop.j (omega (arith, held_long args.t.now args.tb, pre.1)) at-loop-test.false) at-loop.invariant.1
+    left_done (names_none (held_by args.t.now.words.now args.t.now.places).aggregates args.d at-loop.j (omega (arith, held_long args.t.now.words.now args.t.now.places, pre)) at-loop-test.false) at-loop.invariant.1

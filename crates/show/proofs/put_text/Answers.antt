@@ -11,4 +11,4 @@ returns c =
     let at-put2 = c.put-after_atoms in
     let at-put-names = c.put_names-after_names in
     let at-put-rules = c.put_rules in
-    rw (← text_parts args.d args.t.now args.tb) (put_then at-put.ensures (put_then at-put-number.ensures (put_then at-put2.ensures (put_then at-put-names.ensures at-put-rules.ensures))))
+    rw (← text_parts args.d args.t.now.words.now args.t.now.places) (put_then at-put.ensures (put_then at-put-number.ensures (put_then at-put2.ensures (put_then at-put-names.ensures at-put-rules.ensures))))

@@ -1,32 +1,19 @@
 -- `show::show` meets its contract: the refusal of the reader, or the text of what the words hold. Assumes nothing.
-use mathlib.Core.Path.{sym, ap, ◌∙◌}
-use Rattle.table.specs.declared.Reading.{Reading}
+use mathlib.Core.Path.{sym, ◌∙◌}
 use Rattle.table.proofs.Accepted.{fault_refused}
-use Rattle.show.proofs.Held.{Taken, reading_taken}
+use Rattle.table.proofs.Returned.{ends}
+use Rattle.show.proofs.Held.{reading_taken}
 use Rattle.show.proofs.Entry.{shows_refused, shows_laid}
 use Rattle.show.proofs.show.Goals as goal
 
-pub show_laid-requires : goal.show_laid-requires
-show_laid-requires c =
-    let taken : Taken c.args.words.now c.read-reading.result.table =
-    let args = c.args in
-    let at_read = c.read-reading in
-    reading_taken args.words.now at_read.result at_read.ensures c.in-Nothing.is in
-    (taken).laid
+pub invariant_of-t : goal.invariant_of-t
+invariant_of-t c = record { laid = (reading_taken c.args.words.now _ (sym c.read.ensures ∙ c.in_ok-places.was)).laid }
 
-pub returns-in-Refused : goal.returns-in-Refused
-returns-in-Refused c =
-    let args = c.args in
-    let at_read = c.read-reading in
-    shows_refused args.words.now args.text.now c.in-Refused.f (fault_refused args.words.now c.in-Refused.f (sym (ap (λ (x : Reading). x.fault) at_read.ensures) ∙ c.in-Refused.is))
+pub returns-in_err-places : goal.returns-in_err-places
+returns-in_err-places c =
+    rw (ends _ _ c.from_residual.ensures.1) (shows_refused c.args.words.now c.args.text.now _ (fault_refused c.args.words.now _ (sym c.read.ensures ∙ c.in_err-places.was)))
 
-pub returns-in-Nothing : goal.returns-in-Nothing
-returns-in-Nothing c =
-    let taken : Taken c.args.words.now c.read-reading.result.table =
-    let args = c.args in
-    let at_read = c.read-reading in
-    reading_taken args.words.now at_read.result at_read.ensures c.in-Nothing.is in
-    let args = c.args in
-    let at-show-laid = c.show_laid in
-    let x = taken in
-    shows_laid args.words.now args.text.now _ at-show-laid.result x.contents x.accepted (rw x.held at at-show-laid.ensures)
+pub returns : goal.returns
+returns c =
+    let x = reading_taken c.args.words.now _ (sym c.read.ensures ∙ c.in_ok-places.was) in
+    shows_laid c.args.words.now c.args.text.now _ c.show_laid.result x.contents x.accepted (rw x.held at c.show_laid.ensures)

@@ -1,47 +1,37 @@
 -- `solver::check` meets its contract: each way out is one clause of `checked_by`. Assumes nothing.
-use mathlib.Core.Path.{◌≡◌, sym, ap, ◌∙◌}
-use mathlib.Core.Bool.{Bool, true}
+use mathlib.Core.Path.{◌≡◌, refl, sym, ap, ◌∙◌}
+use mathlib.Core.Bool.{Bool, true, false}
+use Prim.Native.Nat.{ℕ}
+use Rattle.std.specs.Prelude.{Option, None, Result, Ok}
+use Rattle.results.specs.declared.Refusal.{Refusal}
 use Rattle.meaning.specs.Answers.{model}
 use Rattle.layout.specs.Layout.{program_of}
-use Rattle.promises.specs.Plans.{plan_atoms}
-use Rattle.solver.specs.Plans.{bad_from, passes_by, checked_by}
-use Rattle.solver.specs.declared.plans.Offer.{Offer}
-use Rattle.solver.specs.declared.plans.Offer.TheVariants as offer
+use Rattle.solver.specs.Plans.{passes_by, checked_by}
 use Rattle.solver.proofs.check.Goals as goal
 
-pub returns-then-passes : goal.returns-then-passes
-returns-then-passes c =
-    let isModel : Bool = model (program_of c.args.words.now c.args.tb) (plan_atoms c.args.tb.atoms c.args.plan.now) in
-    let passed : Bool = passes_by c.args.cycles (program_of c.args.words.now c.args.tb) c.args.tb.atoms (plan_atoms c.args.tb.atoms c.args.plan.now) in
-    let offered : bad_from c.args.plan.now 0 c.args.tb.atoms ≡ c.first_bad-offer.result = sym c.first_bad-offer.ensures in
-    let good : checked_by (bad_from c.args.plan.now 0 c.args.tb.atoms) isModel passed ≡ checked_by offer.Good isModel passed =
-    ap (λ (o : Offer). checked_by o isModel passed) (offered ∙ c.in-Good.is) in
-    let modelled : model (program_of c.args.words.now c.args.tb) (plan_atoms c.args.tb.atoms c.args.plan.now) ≡ c.is_model.result =
-    ap (model (program_of c.args.words.now c.args.tb)) (sym c.values_of-values.ensures.says) ∙ sym c.is_model.ensures in
-    let tested : passes_by c.args.cycles (program_of c.args.words.now c.args.tb) c.args.tb.atoms (plan_atoms c.args.tb.atoms c.args.plan.now) ≡ c.passes.result =
-    ap (passes_by c.args.cycles (program_of c.args.words.now c.args.tb) c.args.tb.atoms) (sym c.values_of-values.ensures.says) ∙ sym c.passes.ensures in
-    sym (good ∙ ap (λ (b : Bool). checked_by offer.Good b passed) (modelled ∙ c.if-is_model.true) ∙ ap (checked_by offer.Good true) (tested ∙ c.if-passes.true))
+says : (f : Bool) → ◌≡◌ {A = Result Bool Refusal} (Ok f) (checked_by None true f)
+says true = refl
+says false = refl
 
-pub returns-else-passes : goal.returns-else-passes
-returns-else-passes c =
-    let isModel : Bool = model (program_of c.args.words.now c.args.tb) (plan_atoms c.args.tb.atoms c.args.plan.now) in
-    let passed : Bool = passes_by c.args.cycles (program_of c.args.words.now c.args.tb) c.args.tb.atoms (plan_atoms c.args.tb.atoms c.args.plan.now) in
-    let offered : bad_from c.args.plan.now 0 c.args.tb.atoms ≡ c.first_bad-offer.result = sym c.first_bad-offer.ensures in
-    let good : checked_by (bad_from c.args.plan.now 0 c.args.tb.atoms) isModel passed ≡ checked_by offer.Good isModel passed =
-    ap (λ (o : Offer). checked_by o isModel passed) (offered ∙ c.in-Good.is) in
-    let modelled : model (program_of c.args.words.now c.args.tb) (plan_atoms c.args.tb.atoms c.args.plan.now) ≡ c.is_model.result =
-    ap (model (program_of c.args.words.now c.args.tb)) (sym c.values_of-values.ensures.says) ∙ sym c.is_model.ensures in
-    let tested : passes_by c.args.cycles (program_of c.args.words.now c.args.tb) c.args.tb.atoms (plan_atoms c.args.tb.atoms c.args.plan.now) ≡ c.passes.result =
-    ap (passes_by c.args.cycles (program_of c.args.words.now c.args.tb) c.args.tb.atoms) (sym c.values_of-values.ensures.says) ∙ sym c.passes.ensures in
-    sym (good ∙ ap (λ (b : Bool). checked_by offer.Good b passed) (modelled ∙ c.if-is_model.true) ∙ ap (checked_by offer.Good true) (tested ∙ c.if-passes.false))
+-- good bytes, and a model or none
+passed : (o : Option ℕ) (m f : Bool) → o ≡ None → m ≡ true → ◌≡◌ {A = Result Bool Refusal} (Ok f) (checked_by o m f)
+passed o m f a b = says f ∙ sym (ap (λ (x : Option ℕ). checked_by x m f) a ∙ ap (λ (x : Bool). checked_by None x f) b)
 
-pub returns-else-is_model : goal.returns-else-is_model
-returns-else-is_model c =
-    let isModel : Bool = model (program_of c.args.words.now c.args.tb) (plan_atoms c.args.tb.atoms c.args.plan.now) in
-    let passed : Bool = passes_by c.args.cycles (program_of c.args.words.now c.args.tb) c.args.tb.atoms (plan_atoms c.args.tb.atoms c.args.plan.now) in
-    let offered : bad_from c.args.plan.now 0 c.args.tb.atoms ≡ c.first_bad-offer.result = sym c.first_bad-offer.ensures in
-    let good : checked_by (bad_from c.args.plan.now 0 c.args.tb.atoms) isModel passed ≡ checked_by offer.Good isModel passed =
-    ap (λ (o : Offer). checked_by o isModel passed) (offered ∙ c.in-Good.is) in
-    let modelled : model (program_of c.args.words.now c.args.tb) (plan_atoms c.args.tb.atoms c.args.plan.now) ≡ c.is_model.result =
-    ap (model (program_of c.args.words.now c.args.tb)) (sym c.values_of-values.ensures.says) ∙ sym c.is_model.ensures in
-    sym (good ∙ ap (λ (b : Bool). checked_by offer.Good b passed) (modelled ∙ c.if-is_model.false))
+no_model : (o : Option ℕ) (m f : Bool) → o ≡ None → m ≡ false → ◌≡◌ {A = Result Bool Refusal} (Ok false) (checked_by o m f)
+no_model o m f a b = sym (ap (λ (x : Option ℕ). checked_by x m f) a ∙ ap (λ (x : Bool). checked_by None x f) b)
+
+pub returns-then-model : goal.returns-then-model
+returns-then-model c =
+    let a = c.args in
+    let P = program_of a.t.now.words.now a.t.now.places in
+    let plan = c.values_of-values.ensures.says in
+    let b = c.in_default.ensures in
+    ap Ok (c.passes.ensures ∙ ap (passes_by a.cycles P a.t.now.places.atoms) plan) ∙ passed _ _ _ (cc) (ap (model P) (sym plan) ∙ sym c.is_model-model.ensures ∙ c.if-model.true)
+
+pub returns-else-model : goal.returns-else-model
+returns-else-model c =
+    let a = c.args in
+    let P = program_of a.t.now.words.now a.t.now.places in
+    let plan = c.values_of-values.ensures.says in
+    let b = c.in_default.ensures in
+    ap Ok c.if-model.false ∙ no_model _ _ _ (cc) (ap (model P) (sym plan) ∙ sym c.is_model-model.ensures ∙ c.if-model.false)

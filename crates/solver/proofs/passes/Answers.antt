@@ -14,9 +14,9 @@ use Rattle.solver.proofs.passes.Goals as goal
 
 pub returns-then-cycles : goal.returns-then-cycles
 returns-then-cycles c =
-    let by : Bool → Bool = λ cycles. let a = c.args in passes_by cycles (program_of a.words.now a.tb) a.tb.atoms (true_atoms a.tb.atoms (valued a.values.now)) in
+    let by : Bool → Bool = λ cycles. let a = c.args in passes_by cycles (program_of a.t.now.words.now a.t.now.places) a.t.now.places.atoms (true_atoms a.t.now.places.atoms (valued a.values.now)) in
     let a = c.args in
-    let n = a.tb.atoms in
+    let n = a.t.now.places.atoms in
     let X = true_atoms n (valued a.values.now) in
-    ap not (c.has_smaller.ensures ∙ ap (λ (m : List ℕ). has_smaller (map (rule_at a.words.now) m) n X) c.list-places.ensures ∙ ap (λ (P : Program). has_smaller P n X) (whole_rules a.words.now a.tb a.lists.now c.requires.1))
+    ap not (c.has_smaller.ensures ∙ ap (λ (m : List ℕ). has_smaller (map (rule_at a.t.now.words.now) m) n X) c.list-places.ensures ∙ ap (λ (P : Program). has_smaller P n X) (whole_rules a.t.now.words.now a.t.now.places a.lists.now c.requires.0))
     ∙ ap by (sym c.if-cycles.true)

@@ -16,16 +16,16 @@ pub explain-answer-requires : goal.explain-answer-requires
 explain-answer-requires c =
     let answered : is_answer c.args.solved ≡ true = sym c.is_answer.ensures ∙ c.if-not-is_answer.false in
     let a = c.args in
-    (c.requires.0, whole_alone a.tb.atoms a.it.values a.it.records (c.requires.1 answered))
+    whole_alone a.t.now.places.atoms a.it.values a.it.records (c.requires answered)
 
 pub returns : goal.returns
 returns c =
-    let ofTrue : ℕ → Why = why_of (program_of c.args.words.now c.args.tb) c.args.tb.atoms (true_atoms c.args.tb.atoms (view c.args.it).cell) in
+    let ofTrue : ℕ → Why = why_of (program_of c.args.t.now.words.now c.args.t.now.places) c.args.t.now.places.atoms (true_atoms c.args.t.now.places.atoms (view c.args.it).cell) in
     let answered : is_answer c.args.solved ≡ true = sym c.is_answer.ensures ∙ c.if-not-is_answer.false in
     let a = c.args in
-    let n = a.tb.atoms in
+    let n = a.t.now.places.atoms in
     subst (Recorded c.whys_of.result)
     (c.explain-answer.ensures.whys
-    ∙ ap (why_of (program_of a.words.now a.tb) n) (sym (plan_alone n a.it.values a.it.records))
+    ∙ ap (why_of (program_of a.t.now.words.now a.t.now.places) n) (sym (plan_alone n a.it.values a.it.records))
     ∙ ap (λ (b : Bool). whys_if b ofTrue) (sym answered))
     c.whys_of.ensures

@@ -18,12 +18,12 @@ returns-then-k-l c =
     let f = supports_of (valued a.values.now) a.p in
     let x = valued a.values.now in
     c.sole.ensures
-    ∙ ap (λ (m : List ℕ). sole_by (get_or a.l.now k 0) (some_rule f a.t.now m) (forced_of x (rule_at a.t.now (get_or a.l.now k 0)))) (from_on (k + 1) a.l.now)
-    ∙ ap (λ (j : ℕ). sole_by (get_or a.l.now k 0) (some_rule f a.t.now (drop j a.l.now)) (forced_of (valued a.values.now) (rule_at a.t.now (get_or a.l.now k 0)))) (add-one k)
-    ∙ sym (true_at f a.t.now (forced_of (valued a.values.now)) a.l.now k (sym c.first_support-k.ensures) c.if-k-l.true)
+    ∙ ap (λ (m : List ℕ). sole_by (get_or a.l.now k 0) (some_rule f a.t.now.words.now m) (forced_of x (rule_at a.t.now.words.now (get_or a.l.now k 0)))) (from_on (k + 1) a.l.now)
+    ∙ ap (λ (j : ℕ). sole_by (get_or a.l.now k 0) (some_rule f a.t.now.words.now (drop j a.l.now)) (forced_of (valued a.values.now) (rule_at a.t.now.words.now (get_or a.l.now k 0)))) (add-one k)
+    ∙ sym (true_at f a.t.now.words.now (forced_of (valued a.values.now)) a.l.now k (sym c.first_support-k.ensures) c.if-k-l.true)
 
 pub returns : goal.returns
 returns c =
     let a = c.args in
     let f = supports_of (valued a.values.now) a.p in
-    sym (true_none f a.t.now (forced_of (valued a.values.now)) a.l.now (rw (sym c.first_support-k.ensures) c.if-k-l.false))
+    sym (true_none f a.t.now.words.now (forced_of (valued a.values.now)) a.l.now (rw (sym c.first_support-k.ensures) c.if-k-l.false))

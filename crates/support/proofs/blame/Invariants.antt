@@ -1,7 +1,6 @@
 -- `support::blame` meets its contract. Assumes nothing.
 use mathlib.Core.Path.{◌≡◌}
-use Prim.Native.Nat.{◌-◌, ◌≤◌}
-use lib.ListN.{length, drop}
+use lib.ListN.{drop}
 use Rattle.levels.specs.Levels.{union}
 use Rattle.levels.specs.View.{row, rows}
 use Rattle.interpretation.specs.View.{valued}
@@ -11,9 +10,6 @@ use Rattle.support.specs.Asking.{witness_of, blame_of}
 use Rattle.support.proofs.Rounds.{blame_among}
 use Rattle.support.proofs.blame.Given as goal
 
-abbrev pub invariant-loop-k : goal.invariant-loop-k
-invariant-loop-k l =
-    (l.k ≤ length l.l) × (union (row l.acc) (blame_among (witness_of (valued l.values) l.p) (reason_of (valued l.values) (rows l.reasons)) l.p l.t (drop l.k l.l)) ≡ blame_of (valued l.values) (rows l.reasons) l.p (program_of l.t l.tb))
-
-abbrev pub decreases-loop-k : goal.decreases-loop-k
-decreases-loop-k l = length l.l - l.k
+abbrev pub invariant-loop-at : goal.invariant-loop-at
+invariant-loop-at l =
+    union (row l.acc) (blame_among (witness_of (valued l.values) l.p) (reason_of (valued l.values) (rows l.reasons)) l.p l.t.words.now (drop l.at-index l.l)) ≡ blame_of (valued l.values) (rows l.reasons) l.p (program_of l.t.words.now l.t.places)

@@ -10,76 +10,76 @@ use Rattle.support.proofs.Lists.{forced_head, forced_pos, forced_neg}
 use Rattle.support.proofs.forced.Goals as goal
 
 -- src/lib.rt:141:9
-pub returns-in-Atom : goal.returns-in-Atom
-returns-in-Atom c =
+pub returns-in-Some : goal.returns-in-Some
+returns-in-Some c =
     let first : let a = c.args in
-    c.first_with.result ≡ first_with (values_of (valued a.values.now)) Undefined (atoms (part_at a.t.now a.at)) =
+    c.first_with.result ≡ first_with (values_of (valued a.values.now)) Undefined (atoms (part_at a.t.now.words.now a.at)) =
     let a = c.args in
     c.first_with.ensures ∙ ap (λ (l : List ℤ). first_with (values_of (valued a.values.now)) Undefined (atoms l)) c.plain_part-head.ensures in
     let a = c.args in
-    sym (forced_head (valued a.values.now) a.t.now a.at c.in-Atom.q (sym (first) ∙ c.in-Atom.is))
+    sym (forced_head (valued a.values.now) a.t.now.words.now a.at c.in-Some.q (sym (first) ∙ c.in-Some.is))
 
 -- src/lib.rt:146:9
-pub returns-in-Atom-first_with : goal.returns-in-Atom-first_with
-returns-in-Atom-first_with c =
+pub returns-in-Some-first_with : goal.returns-in-Some-first_with
+returns-in-Some-first_with c =
     let first : let a = c.args in
-    c.first_with.result ≡ first_with (values_of (valued a.values.now)) Undefined (atoms (part_at a.t.now a.at)) =
+    c.first_with.result ≡ first_with (values_of (valued a.values.now)) Undefined (atoms (part_at a.t.now.words.now a.at)) =
     let a = c.args in
     c.first_with.ensures ∙ ap (λ (l : List ℤ). first_with (values_of (valued a.values.now)) Undefined (atoms l)) c.plain_part-head.ensures in
     let second : let a = c.args in
-    c.first_with-2.result ≡ first_with (values_of (valued a.values.now)) Undefined (atoms (part_at a.t.now (pos_at a.t.now a.at))) =
+    c.first_with-2.result ≡ first_with (values_of (valued a.values.now)) Undefined (atoms (part_at a.t.now.words.now (pos_at a.t.now.words.now a.at))) =
     let a = c.args in
     c.first_with-2.ensures
-    ∙ ap (λ (l : List ℤ). first_with (values_of (valued a.values.now)) Undefined (atoms l)) (c.plain_part-plain.ensures ∙ ap (part_at a.t.now) c.plain_past-second.ensures) in
+    ∙ ap (λ (l : List ℤ). first_with (values_of (valued a.values.now)) Undefined (atoms l)) (c.plain_part-plain.ensures ∙ ap (part_at a.t.now.words.now) c.plain_past-second.ensures) in
     let a = c.args in
-    sym (forced_pos (valued a.values.now) a.t.now a.at (sym (first) ∙ c.in_default.is) c.in-Atom-first_with.q (sym (second) ∙ c.in-Atom-first_with.is))
+    sym (forced_pos (valued a.values.now) a.t.now.words.now a.at (sym (first) ∙ c.in_default.is) c.in-Some-first_with.q (sym (second) ∙ c.in-Some-first_with.is))
 
 -- src/lib.rt:151:9
-pub returns-in-Atom-first_with-2 : goal.returns-in-Atom-first_with-2
-returns-in-Atom-first_with-2 c =
+pub returns-in-Some-first_with-2 : goal.returns-in-Some-first_with-2
+returns-in-Some-first_with-2 c =
     let first : let a = c.args in
-    c.first_with.result ≡ first_with (values_of (valued a.values.now)) Undefined (atoms (part_at a.t.now a.at)) =
+    c.first_with.result ≡ first_with (values_of (valued a.values.now)) Undefined (atoms (part_at a.t.now.words.now a.at)) =
     let a = c.args in
     c.first_with.ensures ∙ ap (λ (l : List ℤ). first_with (values_of (valued a.values.now)) Undefined (atoms l)) c.plain_part-head.ensures in
     let second : let a = c.args in
-    c.first_with-2.result ≡ first_with (values_of (valued a.values.now)) Undefined (atoms (part_at a.t.now (pos_at a.t.now a.at))) =
+    c.first_with-2.result ≡ first_with (values_of (valued a.values.now)) Undefined (atoms (part_at a.t.now.words.now (pos_at a.t.now.words.now a.at))) =
     let a = c.args in
     c.first_with-2.ensures
-    ∙ ap (λ (l : List ℤ). first_with (values_of (valued a.values.now)) Undefined (atoms l)) (c.plain_part-plain.ensures ∙ ap (part_at a.t.now) c.plain_past-second.ensures) in
+    ∙ ap (λ (l : List ℤ). first_with (values_of (valued a.values.now)) Undefined (atoms l)) (c.plain_part-plain.ensures ∙ ap (part_at a.t.now.words.now) c.plain_past-second.ensures) in
     let neg-place : let a = c.args in
-    c.plain_past-third.result ≡ neg_at a.t.now a.at =
+    c.plain_past-third.result ≡ neg_at a.t.now.words.now a.at =
     let a = c.args in
-    c.plain_past-third.ensures ∙ ap (past_at a.t.now) c.plain_past-second.ensures in
+    c.plain_past-third.ensures ∙ ap (past_at a.t.now.words.now) c.plain_past-second.ensures in
     let third : let a = c.args in
-    c.first_with-3.result ≡ first_with (values_of (valued a.values.now)) Undefined (atoms (part_at a.t.now (neg_at a.t.now a.at))) =
+    c.first_with-3.result ≡ first_with (values_of (valued a.values.now)) Undefined (atoms (part_at a.t.now.words.now (neg_at a.t.now.words.now a.at))) =
     let a = c.args in
     c.first_with-3.ensures
-    ∙ ap (λ (l : List ℤ). first_with (values_of (valued a.values.now)) Undefined (atoms l)) (c.plain_part-negated.ensures ∙ ap (part_at a.t.now) (neg-place)) in
+    ∙ ap (λ (l : List ℤ). first_with (values_of (valued a.values.now)) Undefined (atoms l)) (c.plain_part-negated.ensures ∙ ap (part_at a.t.now.words.now) (neg-place)) in
     let a = c.args in
-    sym (forced_neg (valued a.values.now) a.t.now a.at (sym (first) ∙ c.in_default.is) (sym (second) ∙ c.in_default-first_with.is)
-    _ (sym (third) ∙ c.in-Atom-first_with-2.is))
+    sym (forced_neg (valued a.values.now) a.t.now.words.now a.at (sym (first) ∙ c.in_default.is) (sym (second) ∙ c.in_default-first_with.is)
+    _ (sym (third) ∙ c.in-Some-first_with-2.is))
 
 -- src/lib.rt:135:1
 pub returns : goal.returns
 returns c =
     let first : let a = c.args in
-    c.first_with.result ≡ first_with (values_of (valued a.values.now)) Undefined (atoms (part_at a.t.now a.at)) =
+    c.first_with.result ≡ first_with (values_of (valued a.values.now)) Undefined (atoms (part_at a.t.now.words.now a.at)) =
     let a = c.args in
     c.first_with.ensures ∙ ap (λ (l : List ℤ). first_with (values_of (valued a.values.now)) Undefined (atoms l)) c.plain_part-head.ensures in
     let second : let a = c.args in
-    c.first_with-2.result ≡ first_with (values_of (valued a.values.now)) Undefined (atoms (part_at a.t.now (pos_at a.t.now a.at))) =
+    c.first_with-2.result ≡ first_with (values_of (valued a.values.now)) Undefined (atoms (part_at a.t.now.words.now (pos_at a.t.now.words.now a.at))) =
     let a = c.args in
     c.first_with-2.ensures
-    ∙ ap (λ (l : List ℤ). first_with (values_of (valued a.values.now)) Undefined (atoms l)) (c.plain_part-plain.ensures ∙ ap (part_at a.t.now) c.plain_past-second.ensures) in
+    ∙ ap (λ (l : List ℤ). first_with (values_of (valued a.values.now)) Undefined (atoms l)) (c.plain_part-plain.ensures ∙ ap (part_at a.t.now.words.now) c.plain_past-second.ensures) in
     let neg-place : let a = c.args in
-    c.plain_past-third.result ≡ neg_at a.t.now a.at =
+    c.plain_past-third.result ≡ neg_at a.t.now.words.now a.at =
     let a = c.args in
-    c.plain_past-third.ensures ∙ ap (past_at a.t.now) c.plain_past-second.ensures in
+    c.plain_past-third.ensures ∙ ap (past_at a.t.now.words.now) c.plain_past-second.ensures in
     let third : let a = c.args in
-    c.first_with-3.result ≡ first_with (values_of (valued a.values.now)) Undefined (atoms (part_at a.t.now (neg_at a.t.now a.at))) =
+    c.first_with-3.result ≡ first_with (values_of (valued a.values.now)) Undefined (atoms (part_at a.t.now.words.now (neg_at a.t.now.words.now a.at))) =
     let a = c.args in
     c.first_with-3.ensures
-    ∙ ap (λ (l : List ℤ). first_with (values_of (valued a.values.now)) Undefined (atoms l)) (c.plain_part-negated.ensures ∙ ap (part_at a.t.now) (neg-place)) in
+    ∙ ap (λ (l : List ℤ). first_with (values_of (valued a.values.now)) Undefined (atoms l)) (c.plain_part-negated.ensures ∙ ap (part_at a.t.now.words.now) (neg-place)) in
     let a = c.args in
-    sym (forced_neg (valued a.values.now) a.t.now a.at (sym (first) ∙ c.in_default.is) (sym (second) ∙ c.in_default-first_with.is)
+    sym (forced_neg (valued a.values.now) a.t.now.words.now a.at (sym (first) ∙ c.in_default.is) (sym (second) ∙ c.in_default-first_with.is)
     _ (sym (third) ∙ c.in_default-first_with-2.is))

@@ -12,4 +12,4 @@ pub returns : goal.returns
 returns c =
     let a = c.args in
     let f = supports_of (valued a.values.now) a.p in
-    ap (λ (k : ℕ). ltb k (length a.l.now)) c.first_support-k.ensures ∙ some_skipped f a.t.now a.l.now
+    ap (λ (k : ℕ). ltb k (length a.l.now)) c.first_support.ensures ∙ some_skipped f a.t.now.words.now a.l.now

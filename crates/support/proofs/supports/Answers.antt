@@ -1,47 +1,18 @@
--- `support::supports` meets its contract. Assumes nothing.
-use mathlib.Core.Path.{◌≡◌, sym, ap, ◌∙◌}
+-- `support::supports` meets its contract: a rule with p in its head supports it if it has no witness. Assumes nothing.
+use mathlib.Core.Path.{sym, ap, ◌∙◌}
 use mathlib.Core.Bool.{Bool, ◌&&◌}
 use Rattle.meaning.specs.Lists.{has}
 use Rattle.interpretation.specs.View.{valued}
-use Rattle.layout.specs.Layout.{rule_at}
 use Rattle.layout.proofs.Inside.{rule_in_lem}
-use Rattle.support.specs.declared.Witness.{Witness}
-use Rattle.support.specs.Asking.{supports_of, witness_at, is_nobody}
-use Rattle.support.proofs.Witnesses.{rule_head, supports_at}
+use Rattle.support.specs.Asking.{witness_at, is_nobody}
+use Rattle.support.proofs.Witnesses.{rule_head, supports_at, none_nobody}
 use Rattle.support.proofs.supports.Goals as goal
 
-pub returns-in-Nobody : goal.returns-in-Nobody
-returns-in-Nobody c =
-    let by-witness : (w : Witness) → c.witness_of-w.result ≡ w → let a = c.args in
-    supports_of (valued a.values.now) a.p (rule_at a.t.now a.at) ≡ is_nobody w = λ w e.
+pub returns : goal.returns
+returns c =
     let a = c.args in
     let x = valued a.values.now in
-    let r = rule_in_lem a.t.now a.tb c.requires.0 a.at c.requires.1 in
-    supports_at a.tb.atoms a.t.now a.at x r a.p
-    ∙ ap (λ (b : Bool). b && is_nobody (witness_at x a.t.now a.p a.at)) (ap (has a.p) (sym (rule_head a.tb.atoms a.t.now a.at x)) ∙ c.requires.2)
-    ∙ ap is_nobody (sym c.witness_of-w.ensures ∙ e) in
-    sym (by-witness _ c.in-Nobody.is)
-
-pub returns-in-Atom : goal.returns-in-Atom
-returns-in-Atom c =
-    let by-witness : (w : Witness) → c.witness_of-w.result ≡ w → let a = c.args in
-    supports_of (valued a.values.now) a.p (rule_at a.t.now a.at) ≡ is_nobody w = λ w e.
-    let a = c.args in
-    let x = valued a.values.now in
-    let r = rule_in_lem a.t.now a.tb c.requires.0 a.at c.requires.1 in
-    supports_at a.tb.atoms a.t.now a.at x r a.p
-    ∙ ap (λ (b : Bool). b && is_nobody (witness_at x a.t.now a.p a.at)) (ap (has a.p) (sym (rule_head a.tb.atoms a.t.now a.at x)) ∙ c.requires.2)
-    ∙ ap is_nobody (sym c.witness_of-w.ensures ∙ e) in
-    sym (by-witness _ c.in-Atom.is)
-
-pub returns-in-Literal : goal.returns-in-Literal
-returns-in-Literal c =
-    let by-witness : (w : Witness) → c.witness_of-w.result ≡ w → let a = c.args in
-    supports_of (valued a.values.now) a.p (rule_at a.t.now a.at) ≡ is_nobody w = λ w e.
-    let a = c.args in
-    let x = valued a.values.now in
-    let r = rule_in_lem a.t.now a.tb c.requires.0 a.at c.requires.1 in
-    supports_at a.tb.atoms a.t.now a.at x r a.p
-    ∙ ap (λ (b : Bool). b && is_nobody (witness_at x a.t.now a.p a.at)) (ap (has a.p) (sym (rule_head a.tb.atoms a.t.now a.at x)) ∙ c.requires.2)
-    ∙ ap is_nobody (sym c.witness_of-w.ensures ∙ e) in
-    sym (by-witness _ c.in-Literal.is)
+    none_nobody c.is_none.result c.witness_of.result c.is_none.ensures
+    ∙ ap is_nobody c.witness_of.ensures
+    ∙ sym (ap (λ (b : Bool). b && is_nobody (witness_at x a.t.now.words.now a.p a.at)) (ap (has a.p) (sym (rule_head a.t.now.places.atoms a.t.now.words.now a.at x)) ∙ c.requires.1))
+    ∙ sym (supports_at a.t.now.places.atoms a.t.now.words.now a.at x (rule_in_lem a.t.now.words.now a.t.now.places c.args.t.now.laid a.at c.requires.0) a.p)

@@ -17,22 +17,22 @@ use Rattle.turns.proofs.test.Goals as goal
 
 pub returns-then-cycles : goal.returns-then-cycles
 returns-then-cycles c =
-    let by : Bool → Tested = λ cycles. let a = c.args in test_by cycles (taking a.t.now a.lists.now) a.tb.atoms a.left (true_atoms a.tb.atoms (valued a.values.now)) in
+    let by : Bool → Tested = λ cycles. let a = c.args in test_by cycles (taking a.t.now.words.now a.lists.now) a.t.now.places.atoms a.left (true_atoms a.t.now.places.atoms (valued a.values.now)) in
     let a = c.args in
     c.look.ensures
-    ∙ ap (λ (m : List ℕ). smaller_test (map (rule_at a.t.now) m) a.tb.atoms a.left (true_atoms a.tb.atoms (valued a.values.now))) c.list-places.ensures
+    ∙ ap (λ (m : List ℕ). smaller_test (map (rule_at a.t.now.words.now) m) a.t.now.places.atoms a.left (true_atoms a.t.now.places.atoms (valued a.values.now))) c.list-places.ensures
     ∙ ap by (sym c.if-cycles.true)
 
 pub returns-then-founded_by : goal.returns-then-founded_by
 returns-then-founded_by c =
-    let founds : let a = c.args in let X = true_atoms a.tb.atoms (valued a.values.now) in
-    founded (program_of a.t.now a.tb) a.tb.atoms X ≡ founded (taking a.t.now a.lists.now) a.tb.atoms X = let a = c.args in sym (part_founded a.t.now a.tb (list_at a.lists.now 0) c.requires.1.part (true_atoms a.tb.atoms (valued a.values.now)) a.tb.atoms) in
-    let by : Bool → Tested = λ cycles. let a = c.args in test_by cycles (taking a.t.now a.lists.now) a.tb.atoms a.left (true_atoms a.tb.atoms (valued a.values.now)) in
+    let founds : let a = c.args in let X = true_atoms a.t.now.places.atoms (valued a.values.now) in
+    founded (program_of a.t.now.words.now a.t.now.places) a.t.now.places.atoms X ≡ founded (taking a.t.now.words.now a.lists.now) a.t.now.places.atoms X = let a = c.args in sym (part_founded a.t.now.words.now a.t.now.places (list_at a.lists.now 0) c.requires.0.part (true_atoms a.t.now.places.atoms (valued a.values.now)) a.t.now.places.atoms) in
+    let by : Bool → Tested = λ cycles. let a = c.args in test_by cycles (taking a.t.now.words.now a.lists.now) a.t.now.places.atoms a.left (true_atoms a.t.now.places.atoms (valued a.values.now)) in
     ap verdict_of (sym c.if-founded_by.true ∙ c.founded_by.ensures ∙ founds) ∙ ap by (sym c.if-cycles.false)
 
 pub returns : goal.returns
 returns c =
-    let founds : let a = c.args in let X = true_atoms a.tb.atoms (valued a.values.now) in
-    founded (program_of a.t.now a.tb) a.tb.atoms X ≡ founded (taking a.t.now a.lists.now) a.tb.atoms X = let a = c.args in sym (part_founded a.t.now a.tb (list_at a.lists.now 0) c.requires.1.part (true_atoms a.tb.atoms (valued a.values.now)) a.tb.atoms) in
-    let by : Bool → Tested = λ cycles. let a = c.args in test_by cycles (taking a.t.now a.lists.now) a.tb.atoms a.left (true_atoms a.tb.atoms (valued a.values.now)) in
+    let founds : let a = c.args in let X = true_atoms a.t.now.places.atoms (valued a.values.now) in
+    founded (program_of a.t.now.words.now a.t.now.places) a.t.now.places.atoms X ≡ founded (taking a.t.now.words.now a.lists.now) a.t.now.places.atoms X = let a = c.args in sym (part_founded a.t.now.words.now a.t.now.places (list_at a.lists.now 0) c.requires.0.part (true_atoms a.t.now.places.atoms (valued a.values.now)) a.t.now.places.atoms) in
+    let by : Bool → Tested = λ cycles. let a = c.args in test_by cycles (taking a.t.now.words.now a.lists.now) a.t.now.places.atoms a.left (true_atoms a.t.now.places.atoms (valued a.values.now)) in
     ap verdict_of (sym c.if-founded_by.false ∙ c.founded_by.ensures ∙ founds) ∙ ap by (sym c.if-cycles.false)

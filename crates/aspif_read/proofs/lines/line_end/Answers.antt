@@ -1,6 +1,7 @@
 -- `aspif_read::lines::line_end` meets its contract. Assumes nothing.
-use Rattle.aspif_read.proofs.LineLaws.{line_stop, line_on, line_none}
+use Rattle.aspif_read.proofs.LineLaws.{line_stop, line_on, line_past}
 use borrow.Author.Tests.{eq-eqb, ne_eqb}
+use mathlib.Core.Path.{◌∙◌}
 use native.Mathlib.Omega.{arith}
 use Rattle.aspif_read.proofs.lines.line_end.Goals as goal
 
@@ -11,4 +12,4 @@ pub loop-i-preserved : goal.loop-i-preserved
 loop-i-preserved c = let e = line_on c.args.text.now c.loop-i.i c.loop-i-test.true (ne_eqb _ 10 c.if-text-i-eq10.false) in let i = c.loop-i.invariant in omega arith
 
 pub returns : goal.returns
-returns c = let e = line_none c.args.text.now c.loop-i.i c.loop-i-test.false in let i = c.loop-i.invariant in omega arith
+returns c = c.max.ensures ∙ line_past c.args.text.now c.args.from c.loop-i.i (omega arith) c.loop-i.auto.i-end c.loop-i.invariant

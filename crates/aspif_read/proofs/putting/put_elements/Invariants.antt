@@ -9,9 +9,6 @@ use Prim.Native.Nat.{ℕ, ◌+◌, ◌-◌, ◌≤◌}
 use mathlib.Core.Path.{◌≡◌}
 use Rattle.aspif_read.proofs.putting.put_elements.Given as goal
 
-abbrev pub invariant-loop-p : goal.invariant-loop-p
-invariant-loop-p l = (1 ≤ l.p) × (l.p ≤ 257) × (l.i + 1 ≡ 768 + l.p) × (l.to ≤ length l.words) × (length l.words ≡ length l.initial.words)
-    × ((r : ℕ) (new : List ℤ) → Put l.words l.to (encode_elements (weights_from l.marks l.i l.p (257 - l.p))) r new → Put l.initial.words l.at (encode_elements (weights_from l.marks (768) 1 256)) r new)
-
-abbrev pub decreases-loop-p : goal.decreases-loop-p
-decreases-loop-p l = 257 - l.p
+abbrev pub invariant-loop-i : goal.invariant-loop-i
+invariant-loop-i l = (l.to ≤ length l.words) × (length l.words ≡ length l.initial.words)
+    × ((r : ℕ) (new : List ℤ) → Put l.words l.to (encode_elements (weights_from l.marks (768 + l.i) (l.i + 1) (256 - l.i))) r new → Put l.initial.words l.at (encode_elements (weights_from l.marks 768 1 256)) r new)

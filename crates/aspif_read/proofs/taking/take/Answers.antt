@@ -1,7 +1,8 @@
 -- `aspif_read::taking::take` meets its contract. Assumes nothing.
 use Rattle.aspif_read.specs.Survey.{judged_line}
 use Rattle.aspif_read.specs.Writing.{Wrote, Takes, statement_words, weighed_line}
-use Rattle.aspif_read.specs.declared.judge.Judged.TheVariants.{Outside}
+use Rattle.std.specs.Prelude.{Err}
+use Rattle.aspif_read.specs.declared.judge.Fault.TheVariants.{Outside}
 use Rattle.aspif_read.proofs.Bounds.{bound_low, marks_capped}
 use Rattle.aspif_read.proofs.Laws.{statement_rule, statement_none, statement_aggregate, weighed_as}
 use Rattle.aspif_read.proofs.Puts.{wrote_as, put_none}
@@ -16,7 +17,7 @@ use Rattle.aspif_read.proofs.taking.take.Goals as goal
 -- a pass that writes
 written : (judging rules : Bool) (before : ℕ) (line : List ℕ) (old new : List ℤ) (at to after : ℕ) → judging ≡ false
     → Wrote old at (statement_words rules before line) (before + weighed_line line) (record { at = to; before = after }) new
-    → Takes judging rules before line old at (record { judged = Outside; at = to; before = after }) new
+    → Takes judging rules before line old at (record { judged = Err Outside; at = to; before = after }) new
 written judging rules before line old new at to after e w = record {
   judges = λ t. absurd (false≢true (sym e ∙ t));
   puts = λ _. w.put;

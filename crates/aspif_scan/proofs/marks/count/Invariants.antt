@@ -2,11 +2,8 @@
 use Rattle.aspif_scan.specs.Marks.{row_from}
 use lib.ListN.{length}
 use mathlib.Core.Path.{◌≡◌}
-use Prim.Native.Nat.{◌+◌, ◌*◌, ◌-◌, ◌≤◌}
+use Prim.Native.Nat.{suc, ◌+◌, ◌*◌, ◌-◌, ◌≤◌}
 use Rattle.aspif_scan.proofs.marks.count.Given as goal
 
-abbrev pub invariant-loop-left : goal.invariant-loop-left
-invariant-loop-left l = (l.left ≤ 256) × (l.at + l.left ≡ l.row * 256 + 256) × (l.n + l.left ≤ 256) × (l.n + length (row_from l.marks l.at (257 - l.left) l.left) ≡ length (row_from l.marks (l.row * 256) 1 256))
-
-abbrev pub decreases-loop-left : goal.decreases-loop-left
-decreases-loop-left l = l.left
+abbrev pub invariant-loop-i : goal.invariant-loop-i
+invariant-loop-i l = (l.n ≤ l.i) × (l.n + length (row_from l.marks (l.row * 256 + l.i) (suc l.i) (256 - l.i)) ≡ length (row_from l.marks (l.row * 256) 1 256))

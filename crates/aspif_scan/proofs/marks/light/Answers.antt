@@ -1,14 +1,14 @@
 -- `aspif_scan::marks::light` meets its contract. Assumes nothing.
-use Rattle.aspif_scan.proofs.Laws.{light_yes, light_no, light_none}
-use mathlib.Core.Path.{sym, ◌∙◌}
-use native.Mathlib.Omega.{arith}
+use Rattle.std.proofs.Common.{ℕ, arith, rules, tests}
+use Rattle.std.proofs.lemmas.Iterator.{YieldsList-from_slice}
+use Rattle.std.proofs.lemmas.Iterator.Search.{all_from_yields_List}
+use Rattle.aspif_scan.proofs.Laws.{light_all}
+use lib.Dec.{leb}
+use lib.ListN.{take, drop}
+use mathlib.Core.Path.{◌∙◌}
 use Rattle.aspif_scan.proofs.marks.light.Goals as goal
 
-pub returns-then-marks-at-gt65535 : goal.returns-then-marks-at-gt65535
-returns-then-marks-at-gt65535 c = sym (light_no _ c.loop-left.at c.loop-left.left c.loop-left-test.true c.if-marks-at-gt65535.true) ∙ c.loop-left.invariant.2
-
-pub loop-left-preserved : goal.loop-left-preserved
-loop-left-preserved c = (omega arith, omega arith, sym (light_yes _ c.loop-left.at c.loop-left.left c.loop-left-test.true c.if-marks-at-gt65535.false) ∙ c.loop-left.invariant.2)
-
 pub returns : goal.returns
-returns c = sym (light_none _ c.loop-left.at c.loop-left.left c.loop-left-test.false) ∙ c.loop-left.invariant.2
+returns c =
+    all_from_yields_List (λ (w : ℕ). leb w 65535) _ _ _ c.all.ensures.ran (YieldsList-from_slice (take 256 (drop 1024 c.args.marks.now)) c.iter.ensures.rest) (λ x b q k. search (rules, tests))
+    ∙ light_all c.args.marks.now 1024 256 (omega arith)

@@ -1,4 +1,5 @@
 -- `aspif_scan::scan::scan` meets its contract. Assumes nothing.
+use Rattle.std.specs.Prelude.{Option}
 use Rattle.aspif_scan.specs.declared.number.Number.{Number}
 use Rattle.aspif_scan.proofs.Laws.{read_none, marks_none, numbers_are}
 use Rattle.aspif_scan.specs.Scan.{number_of, numbers_in}
@@ -41,7 +42,7 @@ loop-at-preserved c =
     numbers_in (drop at line) ≡ number_of (take (c.run_end-end.result - at) (drop at line)) ∷ numbers_in (drop c.run_end-end.result line) =
     let line = c.args.line.now in
     let f : runs (drop c.loop-at.at line) ≡ take (c.run_end-end.result - c.loop-at.at) (drop c.loop-at.at line) ∷ runs (drop c.run_end-end.result line) = rw c.run_end-end.ensures (run_first line c.loop-at.at c.loop-at.invariant.0 c.loop-at-test.true) in
-    sym (numbers_are (drop c.loop-at.at line)) ∙ ap (map number_of) f ∙ ap (λ (t : List Number). number_of (take (c.run_end-end.result - c.loop-at.at) (drop c.loop-at.at line)) ∷ t) (numbers_are (drop c.run_end-end.result line)) in
+    sym (numbers_are (drop c.loop-at.at line)) ∙ ap (map number_of) f ∙ ap (λ (t : List (Option Number)). number_of (take (c.run_end-end.result - c.loop-at.at) (drop c.loop-at.at line)) ∷ t) (numbers_are (drop c.run_end-end.result line)) in
     let line = c.args.line.now in
     let q : numbers_in (drop c.run_start-at-in-loop-at.result line) ≡ numbers_in (drop c.run_end-end.result line) = rw c.run_start-at-in-loop-at.ensures (sym (numbers_are _) ∙ ap (map number_of) (start_runs line c.run_end-end.result) ∙ numbers_are _) in (
       rw c.run_start-at-in-loop-at.ensures (starts line c.run_end-end.result (inside)),

@@ -1,12 +1,8 @@
 -- `depend::circles::apart` meets its contract. The invariant: the first i atoms have names of their own. Assumes nothing.
 use mathlib.Core.Path.{◌≡◌}
-use Prim.Native.Nat.{◌-◌, ◌≤◌}
 use lib.ListN.{length}
 use Rattle.depend.specs.Circles.{Apart}
 use Rattle.depend.proofs.circles.apart.Given as goal
 
 abbrev pub invariant-loop-i : goal.invariant-loop-i
-invariant-loop-i l = (l.i ≤ 256) × (length l.names ≡ 256) × Apart l.i l.names
-
-abbrev pub decreases-loop-i : goal.decreases-loop-i
-decreases-loop-i l = 256 - l.i
+invariant-loop-i l = (length l.names ≡ 256) × Apart l.i l.names

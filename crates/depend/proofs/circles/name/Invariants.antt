@@ -1,11 +1,7 @@
--- `depend::circles::name` meets its contract. The invariant: the atoms above l have their names. Assumes nothing.
-use Prim.Native.Nat.{◌≤◌}
+-- `depend::circles::name` meets its contract. The invariant: the atoms above i have their names. Assumes nothing.
 use Rattle.levels.specs.View.{row}
 use Rattle.depend.specs.Circles.{Renamed}
 use Rattle.depend.proofs.circles.name.Given as goal
 
-abbrev pub invariant-loop-l : goal.invariant-loop-l
-invariant-loop-l l = (l.l ≤ l.n) × Renamed l.l l.n (row l.these) l.p l.initial.names l.names
-
-abbrev pub decreases-loop-l : goal.decreases-loop-l
-decreases-loop-l l = l.l
+abbrev pub invariant-loop-i : goal.invariant-loop-i
+invariant-loop-i l = Renamed l.i l.n (row l.these) l.p l.initial.names l.names

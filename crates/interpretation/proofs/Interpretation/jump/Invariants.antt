@@ -1,6 +1,5 @@
 -- `interpretation::Interpretation::jump` meets its contract. Assumes nothing.
 use mathlib.Core.Path.{◌≡◌}
-use Prim.Native.Nat.{◌≤◌}
 use lib.ListN.{length}
 use Rattle.interpretation.specs.View.{cells}
 use Rattle.interpretation.proofs.Laws.{partly}
@@ -8,7 +7,4 @@ use Rattle.interpretation.proofs.Interpretation.jump.Given as goal
 
 abbrev pub invariant-loop-i : goal.invariant-loop-i
 invariant-loop-i l =
-    (l.i ≤ 256) × (length l.self.values ≡ 256) × (length l.self.records ≡ 256) × (l.self.chosen ≡ l.initial.self.chosen) × (l.self.depth ≡ l.initial.self.depth) × (cells l.self.values l.self.records ≡ partly l.m l.i (cells l.initial.self.values l.initial.self.records))
-
-abbrev pub decreases-loop-i : goal.decreases-loop-i
-decreases-loop-i l = l.i
+    (length l.self.values ≡ 256) × (length l.self.records ≡ 256) × (l.self.chosen ≡ l.initial.self.chosen) × (l.self.depth ≡ l.initial.self.depth) × (cells l.self.values l.self.records ≡ partly l.m l.i (cells l.initial.self.values l.initial.self.records))

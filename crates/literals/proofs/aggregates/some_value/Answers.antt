@@ -1,79 +1,77 @@
--- `literals::aggregates::some_value` meets its contract. The invariant of its loop: of the pairs walked, no true element passes, and `passable`
--- says whether one that could be true does. Assumes nothing.
-use mathlib.Core.Path.{◌≡◌, refl, sym, ap, ◌∙◌}
-use mathlib.Core.Bool.{Bool, ◌||◌}
-use Prim.Native.Nat.{ℕ, ◌-◌, ◌/◌}
-use native.Mathlib.Omega.{arith}
-use lib.Dec.{ltb, eqb}
-use borrow.Author.Tests.{ne_eqb}
-use lib.ListN.{length}
+-- `literals::aggregates::some_value` meets its contract. Assumes nothing.
+use Rattle.std.proofs.Common.{rules, arith, Bool, true, false, ◌≡◌, ◌+◌, nat_abs, pos, get_or, [], refl, sym, ap, ◌∙◌}
+use mathlib.Core.Path.{subst}
+use lib.IntN.{ℤ}
 use Rattle.interpretation.specs.View.{cell_by, valued, cell_value}
-use Rattle.interpretation.specs.declared.Value.{Value}
-use Rattle.literals.specs.Elements.{Marks, passes_by, marked_by, marks_of}
-use Rattle.literals.proofs.Pairs.{pair_at, pairs_end}
-use Rattle.literals.proofs.Amounts.{marks_none}
-use Rattle.literals.proofs.Bytes.{marks_from, marks_step, passing, pass_byte, fail_passed, fail_passable, passed_early}
+use Rattle.layout.specs.Layout.{pairs}
+use Rattle.literals.specs.Elements.{passes_by, marks_of}
+use Rattle.literals.proofs.Pairs.{pair_on, value_read, atom_read, value_asked, atom_asked, pairs_read}
+use Rattle.literals.proofs.Bytes.{marks_from, marks_on, marks_end, SomeFrom, some_pass, some_true, some_fail, some_end}
 use Rattle.literals.proofs.aggregates.some_value.Goals as goal
+use Rattle.literals.proofs.aggregates.some_value.Goals.{then-passes+else-b-eq1, else-passes}
 
-pub loop-left-init : goal.loop-left-init
-loop-left-init c =
-    let a = c.args in
-    let e = ap (marks_of a.c a.k (valued a.values.now)) (pairs_end a.w.now (length a.w.now / 2) (omega arith)) ∙ sym (marks_none a.c a.k (valued a.values.now)) in
-    (omega arith, ap (λ (m : Marks). m.passed) e, ap (λ (m : Marks). m.passable) e)
+pub plain-requires : goal.plain-requires
+plain-requires c =
+    let q = c.as_chunks in
+    value_asked c.args.w.now q.result.0.now q.ensures.front q.ensures.front_len c.loop-value.value-index c.loop-value-test.true c.requires _ (search rules)
+
+pub byte-b-requires : goal.byte-b-requires
+byte-b-requires c =
+    let q = c.as_chunks in
+    atom_asked c.args.w.now q.result.0.now q.ensures.front q.ensures.front_len c.loop-value.value-index c.loop-value-test.true c.requires _ (search rules)
 
 pub returns-then-b-eq1 : goal.returns-then-b-eq1
 returns-then-b-eq1 c =
-    let step : (v : Value) (ok : Bool) → c.passes.result ≡ ok
-    → v ≡ cell_value (valued c.args.values.now (pair_at c.args.w.now c.loop-left.left).atom)
-    → marks_from c.args.w.now c.args.c c.args.k (valued c.args.values.now) (c.loop-left.left - 1)
-    ≡ marked_by v ok (marks_from c.args.w.now c.args.c c.args.k (valued c.args.values.now) c.loop-left.left) = λ v ok e ev.
     let a = c.args in
-    marks_step a.w.now a.c a.k (valued a.values.now) c.loop-left.left c.loop-left-test.true (omega arith) v ok ev
-    (sym e ∙ c.passes.ensures ∙ ap (passes_by a.c a.k) c.number.ensures) in
-    let step-byte : marks_from c.args.w.now c.args.c c.args.k (valued c.args.values.now) (c.loop-left.left - 1)
-    ≡ passing (eqb c.byte_at-b.result 1) (ltb c.byte_at-b.result 2) (marks_from c.args.w.now c.args.c c.args.k (valued c.args.values.now) c.loop-left.left) =
-    let a = c.args in
-    step (cell_value (cell_by c.byte_at-b.result 0)) _ c.if-passes.true (ap cell_value c.byte_at-b.ensures)
-    ∙ pass_byte c.byte_at-b.result (marks_from a.w.now a.c a.k (valued a.values.now) c.loop-left.left) in
-    let a = c.args in
-    let m = marks_from a.w.now a.c a.k (valued a.values.now) c.loop-left.left in
-    let e = step-byte ∙ ap (λ (x : ℕ). passing (eqb x 1) (ltb x 2) m) c.if-b-eq1.true in
-    passed_early a.w.now a.c a.k (valued a.values.now) (c.loop-left.left - 1) (omega arith) (ap (λ (n : Marks). n.passed) e) (ap (λ (n : Marks). n.passable) e)
+    let w = a.w.now in
+    let X = valued a.values.now in
+    let i = c.loop-value.value-index in
+    let q = c.as_chunks in
+    let front = q.result.0.now in
+    let e = pair_on w i in
+    let p = c.loop-value.passable in
+    let b = c.byte-b.result in
+    let all = marks_of a.c a.k X (pairs w) in
+    let one = pairs_read w front q.ensures.front q.ensures.front_len i c.loop-value-test.true in
+    let first : c.plain.result ≡ nat_abs (get_or (get_or front i []) 0 (pos 0)) = search rules in
+    let value = first ∙ ap nat_abs (value_read w front q.ensures.front q.ensures.front_len i c.loop-value-test.true) in
+    let second : cell_by c.byte-b.result 0 ≡ valued c.args.values.now (nat_abs (get_or (get_or front i []) 1 (pos 0))) = search rules in
+    let cell = second ∙ ap (λ (z : ℤ). X (nat_abs z)) (atom_read w front q.ensures.front q.ensures.front_len i c.loop-value-test.true) in
+    let from = marks_on w a.c a.k X i one (cell_value (cell_by b 0)) true (ap cell_value cell) (sym c.if-passes.true ∙ c.passes.ensures ∙ ap (passes_by a.c a.k) value) in
+    some_true all (marks_from w a.c a.k X (i + 1)) b p c.if-b-eq1.true (subst (SomeFrom all p) from c.loop-value.invariant)
 
-pub loop-left-preserved-then-passes : goal.loop-left-preserved-then-passes
-loop-left-preserved-then-passes c =
-    let step : (v : Value) (ok : Bool) → c.passes.result ≡ ok
-    → v ≡ cell_value (valued c.args.values.now (pair_at c.args.w.now c.loop-left.left).atom)
-    → marks_from c.args.w.now c.args.c c.args.k (valued c.args.values.now) (c.loop-left.left - 1)
-    ≡ marked_by v ok (marks_from c.args.w.now c.args.c c.args.k (valued c.args.values.now) c.loop-left.left) = λ v ok e ev.
+pub loop-value-preserved : goal.loop-value-preserved
+loop-value-preserved c =
     let a = c.args in
-    marks_step a.w.now a.c a.k (valued a.values.now) c.loop-left.left c.loop-left-test.true (omega arith) v ok ev
-    (sym e ∙ c.passes.ensures ∙ ap (passes_by a.c a.k) c.number.ensures) in
-    let step-byte : marks_from c.args.w.now c.args.c c.args.k (valued c.args.values.now) (c.loop-left.left - 1)
-    ≡ passing (eqb c.byte_at-b.result 1) (ltb c.byte_at-b.result 2) (marks_from c.args.w.now c.args.c c.args.k (valued c.args.values.now) c.loop-left.left) =
-    let a = c.args in
-    step (cell_value (cell_by c.byte_at-b.result 0)) _ c.if-passes.true (ap cell_value c.byte_at-b.ensures)
-    ∙ pass_byte c.byte_at-b.result (marks_from a.w.now a.c a.k (valued a.values.now) c.loop-left.left) in
-    let e = step-byte in (
-      omega arith,
-      ap (λ (n : Marks). n.passed) e ∙ ap (λ (x : Bool). x || (marks_from c.args.w.now c.args.c c.args.k (valued c.args.values.now) c.loop-left.left).passed) (ne_eqb c.byte_at-b.result 1 c.if-b-eq1.false) ∙ c.loop-left.invariant.1,
-      ap (λ (n : Marks). n.passable) e ∙ ap (λ (x : Bool). ltb c.byte_at-b.result 2 || x) c.loop-left.invariant.2,
-    )
+    let w = a.w.now in
+    let X = valued a.values.now in
+    let i = c.loop-value.value-index in
+    let q = c.as_chunks in
+    let front = q.result.0.now in
+    let e = pair_on w i in
+    let p = c.loop-value.passable in
+    let all = marks_of a.c a.k X (pairs w) in
+    let rest = marks_from w a.c a.k X (i + 1) in
+    let one = pairs_read w front q.ensures.front q.ensures.front_len i c.loop-value-test.true in
+    let first : c.plain.result ≡ nat_abs (get_or (get_or front i []) 0 (pos 0)) = search rules in
+    let value = first ∙ ap nat_abs (value_read w front q.ensures.front q.ensures.front_len i c.loop-value-test.true) in
+    let ok = c.passes.ensures ∙ ap (passes_by a.c a.k) value in
+    elim c.if-passes.branch [
+      | then-passes+else-b-eq1 y ↦
+          let b = y.byte-b.result in
+          let second : cell_by y.byte-b.result 0 ≡ valued c.args.values.now (nat_abs (get_or (get_or front i []) 1 (pos 0))) = search rules in
+          let cell = second ∙ ap (λ (z : ℤ). X (nat_abs z)) (atom_read w front q.ensures.front q.ensures.front_len i c.loop-value-test.true) in
+          let from = marks_on w a.c a.k X i one (cell_value (cell_by b 0)) true (ap cell_value cell) (sym y.if-passes.true ∙ ok) in
+          subst (λ (n : Bool). SomeFrom all n rest) (sym y.passable-is) (some_pass all rest b p y.if-b-eq1.false (subst (SomeFrom all p) from c.loop-value.invariant))
+      | else-passes y ↦
+          let v = cell_value (X e.atom) in
+          let from = marks_on w a.c a.k X i one v false refl (sym y.if-passes.false ∙ ok) in
+          subst (λ (n : Bool). SomeFrom all n rest) (sym y.passable-is) (some_fail all rest v p (subst (SomeFrom all p) from c.loop-value.invariant))
+    ]
 
-pub loop-left-preserved : goal.loop-left-preserved
-loop-left-preserved c =
-    let step : (v : Value) (ok : Bool) → c.passes.result ≡ ok
-    → v ≡ cell_value (valued c.args.values.now (pair_at c.args.w.now c.loop-left.left).atom)
-    → marks_from c.args.w.now c.args.c c.args.k (valued c.args.values.now) (c.loop-left.left - 1)
-    ≡ marked_by v ok (marks_from c.args.w.now c.args.c c.args.k (valued c.args.values.now) c.loop-left.left) = λ v ok e ev.
+pub returns : goal.returns
+returns c =
     let a = c.args in
-    marks_step a.w.now a.c a.k (valued a.values.now) c.loop-left.left c.loop-left-test.true (omega arith) v ok ev
-    (sym e ∙ c.passes.ensures ∙ ap (passes_by a.c a.k) c.number.ensures) in
-    let a = c.args in
-    let v = cell_value (valued a.values.now (pair_at a.w.now c.loop-left.left).atom) in
-    let m = marks_from a.w.now a.c a.k (valued a.values.now) c.loop-left.left in
-    let e = step v _ c.if-passes.false refl in (
-      omega arith,
-      ap (λ (n : Marks). n.passed) e ∙ fail_passed v m ∙ c.loop-left.invariant.1,
-      ap (λ (n : Marks). n.passable) e ∙ fail_passable v m ∙ c.loop-left.invariant.2,
-    )
+    let X = valued a.values.now in
+    let none = marks_end a.w.now a.c a.k X c.loop-value.value-index (omega (arith, c.as_chunks.ensures.front_len)) in
+    c.between.ensures ∙ some_end (marks_of a.c a.k X (pairs a.w.now)) (marks_from a.w.now a.c a.k X c.loop-value.value-index) none c.loop-value.passable c.loop-value.invariant

@@ -1,15 +1,14 @@
 -- `literals::aggregates::totals_of` meets its contract. Assumes nothing.
 use mathlib.Core.Path.{◌≡◌}
-use Prim.Native.Nat.{◌-◌, ◌*◌, ◌/◌, ◌≤◌}
-use lib.ListN.{length, drop}
+use Prim.Native.Nat.{◌+◌, ◌*◌, ◌≤◌}
+use lib.ListN.{drop}
 use Rattle.interpretation.specs.View.{valued}
 use Rattle.layout.specs.Layout.{pairs}
 use Rattle.literals.specs.Elements.{totals_of}
 use Rattle.literals.proofs.aggregates.totals_of.Given as goal
 
-abbrev pub invariant-loop-left : goal.invariant-loop-left
-invariant-loop-left l =
-    (l.left ≤ length l.w / 2) × (l.t.low ≤ 65535 * (length l.w / 2 - l.left)) × (l.t.high ≤ 65535 * (length l.w / 2 - l.left)) × (l.t ≡ totals_of l.count (valued l.values) (pairs (drop (2 * l.left) l.w)))
-
-abbrev pub decreases-loop-left : goal.decreases-loop-left
-decreases-loop-left l = l.left
+abbrev pub invariant-loop-value : goal.invariant-loop-value
+invariant-loop-value l =
+    (l.t.low ≤ 65535 * l.value-index) × (l.t.high ≤ 65535 * l.value-index)
+    × (l.t.low + (totals_of l.count (valued l.values) (pairs (drop (2 * l.value-index) l.w))).low ≡ (totals_of l.count (valued l.values) (pairs l.w)).low)
+    × (l.t.high + (totals_of l.count (valued l.values) (pairs (drop (2 * l.value-index) l.w))).high ≡ (totals_of l.count (valued l.values) (pairs l.w)).high)

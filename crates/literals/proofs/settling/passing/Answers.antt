@@ -1,25 +1,26 @@
 -- `literals::settling::passing` meets its contract. Assumes nothing.
-use mathlib.Core.Path.{sym, ap, ap₂, ◌∙◌}
-use mathlib.Core.Bool.{Bool}
-use Prim.Native.Nat.{ℕ, ◌+◌, ◌/◌, ◌≤◌}
-use native.Mathlib.Omega.{arith}
-use lib.ListN.{length}
+use Rattle.std.proofs.Common.{rules, arith, ◌≡◌, nat_abs, pos, get_or, [], Bool, ap, ◌∙◌}
 use Rattle.literals.specs.Elements.{passes_by, part_of}
 use Rattle.literals.specs.Settled.{passing_of}
-use Rattle.literals.proofs.Pairs.{pairs_down, pairs_end}
+use Rattle.literals.proofs.Pairs.{pair_on, value_read, pairs_read, pairs_end}
 use Rattle.literals.proofs.Bytes.{part_most}
 use Rattle.literals.proofs.settling.passing.Goals as goal
 
-pub loop-left-init : goal.loop-left-init
-loop-left-init c = let a = c.args in (omega arith, omega arith, sym (ap (passing_of a.c a.k) (pairs_end a.w.now (length a.w.now / 2) (omega arith))))
+pub loop-value-preserved : goal.loop-value-preserved
+loop-value-preserved c =
+    let w = c.args.w.now in
+    let i = c.loop-value.value-index in
+    let q = c.as_chunks in
+    let front = q.result.0.now in
+    let word : c.size.result ≡ nat_abs (get_or (get_or front i []) 0 (pos 0)) = search rules in
+    let value : c.size.result ≡ (pair_on w i).value = word ∙ ap nat_abs (value_read w front q.ensures.front q.ensures.front_len i c.loop-value-test.true) in
+    let part : c.from-x.result ≡ part_of c.passes.result 1 = search rules in
+    let light = part_most c.passes.result 1 in
+    let one = part ∙ ap (λ (b : Bool). part_of b 1) (c.passes.ensures ∙ ap (passes_by c.args.c c.args.k) value) in
+    let more = ap (passing_of c.args.c c.args.k) (pairs_read w front q.ensures.front q.ensures.front_len i c.loop-value-test.true) in
+    (omega arith, omega (arith, one, more))
 
-pub loop-left-preserved : goal.loop-left-preserved
-loop-left-preserved c =
-    let light : c.part-x.result ≤ 1 = rw c.part-x.ensures (part_most c.passes.result 1) in
-    let a = c.args in
-    let m = light in (
-      omega arith,
-      omega arith,
-      ap₂ (λ (x y : ℕ). x + y) c.loop-left.invariant.2 (c.part-x.ensures ∙ ap (λ (q : Bool). part_of q 1) (c.passes.ensures ∙ ap (passes_by a.c a.k) c.atom.ensures))
-          ∙ sym (ap (passing_of a.c a.k) (pairs_down a.w.now c.loop-left.left c.loop-left-test.true (omega arith))),
-    )
+pub returns : goal.returns
+returns c =
+    let none = ap (passing_of c.args.c c.args.k) (pairs_end c.args.w.now c.loop-value.value-index (omega (arith, c.as_chunks.ensures.front_len))) in
+    omega (arith, none)

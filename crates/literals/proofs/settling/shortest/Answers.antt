@@ -1,20 +1,17 @@
 -- `literals::settling::shortest` meets its contract. Assumes nothing.
-use mathlib.Core.Path.{◌≡◌, sym, ap, ap₂, ◌∙◌}
-use mathlib.Core.Bool.{Bool}
-use mathlib.Core.List.{List}
-use Prim.Native.Nat.{ℕ, ◌+◌, ◌*◌, ◌≤◌}
-use native.Mathlib.Omega.{arith}
-use lib.IntN.{pos, nat_abs}
-use lib.ListN.{get_or, drop}
+use Rattle.std.proofs.Common.{rules, arith, Bool, List, ℕ, ◌≡◌, ◌+◌, ◌*◌, ◌≤◌, nat_abs, pos, get_or, drop, [], sym, ap, ◌∙◌}
+use mathlib.Core.Path.{ap₂}
 use Rattle.meaning.specs.Program.{Element}
 use Rattle.levels.specs.Levels.{Levels}
 use Rattle.levels.specs.View.{row, rows}
-use Rattle.interpretation.specs.View.{valued}
+use Rattle.interpretation.specs.State.{Cell}
+use Rattle.interpretation.specs.View.{valued, cell_by, cell_value}
+use Rattle.valuing.specs.Values.{says_true, signed}
 use Rattle.layout.specs.Layout.{pairs}
 use Rattle.literals.specs.Elements.{weight_of, part_of}
-use Rattle.literals.specs.Settled.{join_if, of_sign, whole_of, Told, run_of}
-use Rattle.literals.proofs.Pairs.{pair_on, pairs_on, pairs_end}
-use Rattle.literals.proofs.Bytes.{part_most}
+use Rattle.literals.specs.Settled.{join_if, whole_of, Told, run_of}
+use Rattle.literals.proofs.Pairs.{pair_on, value_read, atom_read, atom_asked, pairs_read, pairs_end}
+use Rattle.literals.proofs.Bytes.{part_most, affirms_sign}
 use Rattle.literals.proofs.Runs.{run_on, run_here}
 use Rattle.literals.proofs.settling.shortest.Goals as goal
 
@@ -24,57 +21,72 @@ returns-then-bound c =
     let X = valued a.values.now in
     let R = rows a.reasons.now in
     let w = a.w.now in
-    let i = c.loop-i.i in
-    sym (ap (λ (es : List Element). run_of a.sign a.count a.c a.k a.high X R es c.loop-i.x (row c.loop-i.acc)) (pairs_on w i (omega arith))
-    ∙ run_here a.sign a.count a.c a.k a.high X R (pair_on w i) (pairs (drop (2 * (i + 1)) w)) c.loop-i.x (row c.loop-i.acc) (sym c.bound.ensures ∙ c.if-bound.true))
-    ∙ c.loop-i.invariant.2
+    let x = c.loop-value.x in
+    let A = row c.loop-value.acc in
+    let i = c.loop-value.value-index in
+    let q = c.as_chunks in
+    sym (ap (λ (es : List Element). run_of a.sign a.count a.c a.k a.high X R es x A) (pairs_read w q.result.0.now q.ensures.front q.ensures.front_len i c.loop-value-test.true)
+    ∙ run_here a.sign a.count a.c a.k a.high X R (pair_on w i) (pairs (drop (2 * (i + 1)) w)) x A (sym c.bound.ensures ∙ c.if-bound.true))
+    ∙ c.loop-value.invariant.1
 
 pub overflow_add-x : goal.overflow_add-x
 overflow_add-x c =
-    let within : (c.loop-i.x + c.part-x.result)
-    + whole_of c.args.count (pairs (drop (2 * (c.loop-i.i + 1)) c.args.w.now))
-    ≤ c.args.high =
-    let a = c.args in
-    let w = a.w.now in
-    let i = c.loop-i.i in
-    let e = ap (whole_of a.count) (pairs_on w i (omega arith)) in
-    let m : c.part-x.result ≤ c.weight.result = rw c.part-x.ensures (part_most c.of_sign-on.result c.weight.result) in
-    let v : c.weight.result ≡ weight_of a.count (pair_on w i).value = c.weight.ensures ∙ ap (weight_of a.count) c.atom-in-loop-i.ensures in
-    let h = c.loop-i.invariant.1 in
-    omega (arith, e, m, v, h) in
-    let h = within in omega (arith, h)
+    let w = c.args.w.now in
+    let i = c.loop-value.value-index in
+    let q = c.as_chunks in
+    let front = q.result.0.now in
+    let word : c.size-in-loop-value.result ≡ nat_abs (get_or (get_or front i []) 0 (pos 0)) = search rules in
+    let value : c.size-in-loop-value.result ≡ (pair_on w i).value = word ∙ ap nat_abs (value_read w front q.ensures.front q.ensures.front_len i c.loop-value-test.true) in
+    let e = ap (whole_of c.args.count) (pairs_read w front q.ensures.front q.ensures.front_len i c.loop-value-test.true) in
+    let m : c.part-x.result ≤ c.weight.result = rw c.part-x.ensures (part_most c.affirms-on.result c.weight.result) in
+    let v = c.weight.ensures ∙ ap (weight_of c.args.count) value in
+    omega (arith, e, m, v)
 
-pub loop-i-preserved : goal.loop-i-preserved
-loop-i-preserved c =
-    let within : (c.loop-i.x + c.part-x.result)
-    + whole_of c.args.count (pairs (drop (2 * (c.loop-i.i + 1)) c.args.w.now))
-    ≤ c.args.high =
-    let a = c.args in
-    let w = a.w.now in
-    let i = c.loop-i.i in
-    let e = ap (whole_of a.count) (pairs_on w i (omega arith)) in
-    let m : c.part-x.result ≤ c.weight.result = rw c.part-x.ensures (part_most c.of_sign-on.result c.weight.result) in
-    let v : c.weight.result ≡ weight_of a.count (pair_on w i).value = c.weight.ensures ∙ ap (weight_of a.count) c.atom-in-loop-i.ensures in
-    let h = c.loop-i.invariant.1 in
-    omega (arith, e, m, v, h) in
+pub byte-requires : goal.byte-requires
+byte-requires c =
+    let q = c.as_chunks in
+    atom_asked c.args.w.now q.result.0.now q.ensures.front q.ensures.front_len c.loop-value.value-index c.loop-value-test.true c.requires.0 _ (search rules)
+
+pub joined-next-requires : goal.joined-next-requires
+joined-next-requires c =
+    let w = c.args.w.now in
+    let i = c.loop-value.value-index in
+    let q = c.as_chunks in
+    let front = q.result.0.now in
+    let word : c.size.result ≡ nat_abs (get_or (get_or front i []) 1 (pos 0)) = search rules in
+    let atom = word ∙ ap nat_abs (atom_read w front q.ensures.front q.ensures.front_len i c.loop-value-test.true) in
+    rw atom (c.requires.0.atoms i (omega (arith, q.ensures.front_len)))
+
+pub loop-value-preserved : goal.loop-value-preserved
+loop-value-preserved c =
     let a = c.args in
     let X = valued a.values.now in
     let R = rows a.reasons.now in
     let w = a.w.now in
-    let i = c.loop-i.i in
-    let A = row c.loop-i.acc in
-    let p = nat_abs (get_or w (2 * i + 1) (pos 0)) in
-    let on : c.of_sign-on.result ≡ of_sign a.sign (X p) = c.of_sign-on.ensures ∙ ap (of_sign a.sign) c.byte_at.ensures in
-    let xs : c.loop-i.x + c.part-x.result ≡ c.loop-i.x + part_of (of_sign a.sign (X p)) (weight_of a.count (pair_on w i).value)
-    = ap (λ (y : ℕ). c.loop-i.x + y) (c.part-x.ensures ∙ ap₂ part_of on (c.weight.ensures ∙ ap (weight_of a.count) c.atom-in-loop-i.ensures)) in
-    let joins : row c.joined-next.result ≡ join_if (of_sign a.sign (X p)) (R p) A
-    = c.joined-next.ensures ∙ ap₂ (λ (o : Bool) (q : ℕ). join_if o (R q) A) on c.atom.ensures in (
-      omega arith,
-      within,
+    let i = c.loop-value.value-index in
+    let q = c.as_chunks in
+    let front = q.result.0.now in
+    let x = c.loop-value.x in
+    let A = row c.loop-value.acc in
+    let e = pair_on w i in
+    let one = pairs_read w front q.ensures.front q.ensures.front_len i c.loop-value-test.true in
+    let first : c.size-in-loop-value.result ≡ nat_abs (get_or (get_or front i []) 0 (pos 0)) = search rules in
+    let value = first ∙ ap nat_abs (value_read w front q.ensures.front q.ensures.front_len i c.loop-value-test.true) in
+    let second : c.size.result ≡ nat_abs (get_or (get_or front i []) 1 (pos 0)) = search rules in
+    let atom = second ∙ ap nat_abs (atom_read w front q.ensures.front q.ensures.front_len i c.loop-value-test.true) in
+    let byte : cell_by c.byte.result 0 ≡ valued a.values.now (nat_abs (get_or (get_or front i []) 1 (pos 0))) = search rules in
+    let cell = byte ∙ ap (λ (p : ℕ). X p) (sym second ∙ atom) in
+    let on = c.affirms-on.ensures ∙ ap (λ (d : Cell). says_true (signed a.sign (cell_value d))) cell ∙ affirms_sign a.sign (X e.atom) in
+    let weighed = c.weight.ensures ∙ ap (weight_of a.count) value in
+    let xs = ap (λ (y : ℕ). x + y) (c.part-x.ensures ∙ ap₂ part_of on weighed) in
+    let joins = c.joined-next.ensures ∙ ap₂ (λ (o : Bool) (p : ℕ). join_if o (R p) A) on atom in
+    let sums = ap (whole_of a.count) one in
+    let m : c.part-x.result ≤ c.weight.result = rw c.part-x.ensures (part_most c.affirms-on.result c.weight.result) in (
+      omega (arith, sums, m, weighed),
       ap₂ (λ (y : ℕ) (C : Levels). run_of a.sign a.count a.c a.k a.high X R (pairs (drop (2 * (i + 1)) w)) y C) xs joins
-          ∙ sym (ap (λ (es : List Element). run_of a.sign a.count a.c a.k a.high X R es c.loop-i.x A) (pairs_on w i (omega arith))
-          ∙ run_on a.sign a.count a.c a.k a.high X R (pair_on w i) (pairs (drop (2 * (i + 1)) w)) c.loop-i.x A (sym c.bound.ensures ∙ c.if-bound.false))
-          ∙ c.loop-i.invariant.2,
+          ∙ sym (ap (λ (es : List Element). run_of a.sign a.count a.c a.k a.high X R es x A) one
+          ∙ run_on a.sign a.count a.c a.k a.high X R e (pairs (drop (2 * (i + 1)) w)) x A (sym c.bound.ensures ∙ c.if-bound.false))
+          ∙ c.loop-value.invariant.1,
     )
 
 abbrev told : Bool → Levels → Told
@@ -83,8 +95,8 @@ told s A = record { settled = s; reason = A }
 pub returns : goal.returns
 returns c =
     let a = c.args in
-    let X = valued a.values.now in
-    let R = rows a.reasons.now in
-    ap (λ (s : Bool). told s (row c.loop-i.acc)) c.bound-settled.ensures
-    ∙ sym (ap (λ (es : List Element). run_of a.sign a.count a.c a.k a.high X R es c.loop-i.x (row c.loop-i.acc)) (pairs_end a.w.now c.loop-i.i (omega arith)))
-    ∙ c.loop-i.invariant.2
+    let i = c.loop-value.value-index in
+    let done = pairs_end a.w.now i (omega (arith, c.as_chunks.ensures.front_len)) in
+    ap (λ (s : Bool). told s (row c.loop-value.acc)) c.bound-settled.ensures
+    ∙ sym (ap (λ (es : List Element). run_of a.sign a.count a.c a.k a.high (valued a.values.now) (rows a.reasons.now) es c.loop-value.x (row c.loop-value.acc)) done)
+    ∙ c.loop-value.invariant.1

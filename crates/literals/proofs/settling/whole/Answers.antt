@@ -1,25 +1,25 @@
 -- `literals::settling::whole` meets its contract. Assumes nothing.
-use mathlib.Core.Path.{sym, ap, ap₂, ◌∙◌}
-use Prim.Native.Nat.{ℕ, ◌+◌, ◌-◌, ◌/◌, ◌≤◌}
-use native.Mathlib.Omega.{arith}
-use lib.ListN.{length}
+use Rattle.std.proofs.Common.{rules, arith, ◌≡◌, ◌≤◌, nat_abs, pos, get_or, [], ap, ◌∙◌}
 use Rattle.literals.specs.Elements.{weight_of}
 use Rattle.literals.specs.Settled.{whole_of}
-use Rattle.literals.proofs.Pairs.{pairs_down, pairs_end}
+use Rattle.literals.proofs.Pairs.{pair_on, value_read, pairs_read, pairs_end}
 use Rattle.literals.proofs.Amounts.{weight_most}
 use Rattle.literals.proofs.settling.whole.Goals as goal
 
-pub loop-left-init : goal.loop-left-init
-loop-left-init c = let a = c.args in (omega arith, omega arith, sym (ap (whole_of a.count) (pairs_end a.w.now (length a.w.now / 2) (omega arith))))
+pub loop-value-preserved : goal.loop-value-preserved
+loop-value-preserved c =
+    let w = c.args.w.now in
+    let i = c.loop-value.value-index in
+    let q = c.as_chunks in
+    let front = q.result.0.now in
+    let word : c.size.result ≡ nat_abs (get_or (get_or front i []) 0 (pos 0)) = search rules in
+    let value : c.size.result ≡ (pair_on w i).value = word ∙ ap nat_abs (value_read w front q.ensures.front q.ensures.front_len i c.loop-value-test.true) in
+    let light : c.weight-x.result ≤ 65535 = rw c.weight-x.ensures (weight_most c.args.count c.size.result (rw value (c.requires.values i (omega (arith, q.ensures.front_len))))) in
+    let one = c.weight-x.ensures ∙ ap (weight_of c.args.count) value in
+    let more = ap (whole_of c.args.count) (pairs_read w front q.ensures.front q.ensures.front_len i c.loop-value-test.true) in
+    (omega arith, omega (arith, one, more))
 
-pub loop-left-preserved : goal.loop-left-preserved
-loop-left-preserved c =
-    let light : c.weight-x.result ≤ 65535 =
-    rw c.weight-x.ensures (weight_most c.args.count c.atom.result (rw c.atom.ensures (c.requires.values (c.loop-left.left - 1) (omega arith)))) in
-    let a = c.args in
-    let m = light in (
-      omega arith,
-      omega arith,
-      ap₂ (λ (x y : ℕ). x + y) c.loop-left.invariant.2 (c.weight-x.ensures ∙ ap (weight_of a.count) c.atom.ensures)
-          ∙ sym (ap (whole_of a.count) (pairs_down a.w.now c.loop-left.left c.loop-left-test.true (omega arith))),
-    )
+pub returns : goal.returns
+returns c =
+    let none = ap (whole_of c.args.count) (pairs_end c.args.w.now c.loop-value.value-index (omega (arith, c.as_chunks.ensures.front_len))) in
+    omega (arith, none)

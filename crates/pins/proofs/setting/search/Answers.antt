@@ -20,18 +20,18 @@ use Rattle.pins.proofs.setting.search.Goals as goal
 
 pub search_by-halt-requires : goal.search_by-halt-requires
 search_by-halt-requires c =
-    let n = c.args.tb.atoms in
+    let n = c.args.t.now.places.atoms in
     let e = c.start-it.ensures in
     let d : c.start-it.result.depth ≡ 0 = ap (λ (x : Interpretation). x.level) e in
     let o = subst (Ordered n) (sym e) (ordered_pins n (taken_of n (pins_in c.args.s.now)) (held_good n (settings (pins_in c.args.s.now)))) in
-    (c.requires.0, c.requires.1, record { ordered = o; paid = omega (arith, d); few = omega arith })
+    (c.requires.0, record { ordered = o; paid = omega (arith, d); few = omega arith })
 
 pub returns : goal.returns
 returns c =
     let r = c.search_by-halt in
     let a = c.args in
-    let pins = taken_of a.tb.atoms (pins_in a.s.now) in
-    let P = problem_by a.cycles (taking a.t.now a.lists.now) a.tb.atoms (pins_of pins) in
+    let pins = taken_of a.t.now.places.atoms (pins_in a.s.now) in
+    let P = problem_by a.cycles (taking a.t.now.words.now a.lists.now) a.t.now.places.atoms (pins_of pins) in
     let cell : (view c.start-it.result).cell ≡ (start P).interpretation.cell = ap (λ (x : Interpretation). x.cell) c.start-it.ensures ∙ start_cells_lem pins in
     let f : record { interpretation = view c.start-it.result; reason = rows c.no_rows-reasons.result; choices = 0; skips = 0; passes = 0; skipped = [] } ≡ start P = λ j. record {
       interpretation = record { level = (c.start-it.ensures j).level; choice = (c.start-it.ensures j).choice; cell = cell j };
@@ -41,4 +41,4 @@ returns c =
       passes = 0;
       skipped = [];
     } in
-    solves_by P a.limit _ r.result f (searched_pinned a.cycles (taking a.t.now a.lists.now) a.tb.atoms (pins_of pins) a.limit _ r.result (r.ensures []))
+    solves_by P a.limit _ r.result f (searched_pinned a.cycles (taking a.t.now.words.now a.lists.now) a.t.now.places.atoms (pins_of pins) a.limit _ r.result (r.ensures []))

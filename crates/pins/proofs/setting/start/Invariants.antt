@@ -1,6 +1,5 @@
 -- `pins::setting::start` meets its contract. Assumes nothing.
 use mathlib.Core.Path.{◌≡◌}
-use Prim.Native.Nat.{◌-◌, ◌≤◌}
 use Rattle.interpretation.specs.View.{view}
 use Rattle.sessions.specs.Sessions.{held, settings}
 use Rattle.pins.specs.Memory.{pins_to}
@@ -9,7 +8,4 @@ use Rattle.pins.proofs.setting.start.Given as goal
 
 -- the first i pins are set
 abbrev pub invariant-loop-i : goal.invariant-loop-i
-invariant-loop-i l = (l.i ≤ l.held) × (view l.it ≡ start_with (Rattle.sessions.specs.Sessions.held l.n (settings (pins_to l.s l.i))))
-
-abbrev pub decreases-loop-i : goal.decreases-loop-i
-decreases-loop-i l = l.held - l.i
+invariant-loop-i l = view l.it ≡ start_with (Rattle.sessions.specs.Sessions.held l.n (settings (pins_to l.s l.i)))

@@ -1,7 +1,7 @@
 -- `plain::passes::atom_steps` meets its contract. The invariant of its loop: what the atoms from p on make of the pass is like what all atoms make of the first one.
--- The measure is the number of atoms to come. A conflict ends the code's loop at once, and the defined steps do nothing after it.
+-- A conflict ends the code's loop at once, and the defined steps do nothing after it.
 -- Assumes nothing.
-use Prim.Native.Nat.{suc, ◌-◌, ◌≤◌}
+use Prim.Native.Nat.{suc, ◌-◌}
 use mathlib.Core.Path.{◌≡◌}
 use mathlib.Core.Bool.{false}
 use Rattle.layout.specs.Layout.{program_of}
@@ -11,8 +11,5 @@ use Rattle.plain.proofs.passes.atom_steps.Given as goal
 
 abbrev pub invariant-loop-p : goal.invariant-loop-p
 invariant-loop-p l =
-    (1 ≤ l.p) × (l.p ≤ suc l.tb.atoms) × (l.side.conflict ≡ false)
-    × Like (atom_pass (program_of l.t l.tb) (suc l.tb.atoms - l.p) l.p (work_of l.side)) (atom_pass (program_of l.t l.tb) l.tb.atoms 1 (work_of l.initial.side)) × (l.side.choices ≡ l.initial.side.choices)
-
-abbrev pub decreases-loop-p : goal.decreases-loop-p
-decreases-loop-p l = suc l.tb.atoms - l.p
+    (l.side.conflict ≡ false)
+    × Like (atom_pass (program_of l.t.words.now l.t.places) (suc l.t.places.atoms - l.p) l.p (work_of l.side)) (atom_pass (program_of l.t.words.now l.t.places) l.t.places.atoms 1 (work_of l.initial.side)) × (l.side.choices ≡ l.initial.side.choices)

@@ -18,50 +18,50 @@ use Rattle.plain.proofs.Undefined.{undefined_alike, undefined_put}
 use Rattle.plain.proofs.passes.forced_by.Goals as goal
 
 -- nothing is left to be set
-pub returns-in-Nothing : goal.returns-in-Nothing
-returns-in-Nothing c =
+pub returns : goal.returns
+returns c =
     let a = c.args in
-    let w = work_of c.loop-side.side in
-    let r = rule_at a.t.now a.at in
+    let w = work_of c.loop-p.side in
+    let r = rule_at a.t.now.words.now a.at in
     record {
-      like = subst (λ (u : Work). Like u (step_e (some r) no_levels (work_of a.side))) (forced_nothing r no_levels w (sym c.forced-next.ensures ∙ c.in-Nothing.is)) c.loop-side.invariant.0;
-      kept = c.loop-side.invariant.1;
+      like = subst (λ (u : Work). Like u (step_e (some r) no_levels (work_of a.side))) (forced_nothing r no_levels w (sym c.forced.ensures ∙ c.in_default.is)) c.loop-p.invariant.0;
+      kept = c.loop-p.invariant.1;
     }
 
 pub set-side-requires : goal.set-side-requires
 set-side-requires c =
-    let aim : In c.args.tb.atoms c.in-Set.p × (valued c.loop-side.side.values c.in-Set.p ≡ undefined) =
+    let aim : In c.args.t.now.places.atoms c.in-Some.p × (valued c.loop-p.side.values c.in-Some.p ≡ undefined) =
     let a = c.args in
     let p = c.requires in
-    forced_open (rule_at a.t.now a.at) a.tb.atoms (rule_in_lem a.t.now a.tb p.0 a.at p.1) (valued c.loop-side.side.values) c.in-Set.p c.in-Set.v
-    (sym c.forced-next.ensures ∙ c.in-Set.is) in
+    forced_open (rule_at a.t.now.words.now a.at) a.t.now.places.atoms (rule_in_lem a.t.now.words.now a.t.now.places c.args.t.now.laid a.at p) (valued c.loop-p.side.values) c.in-Some.p c.in-Some.v
+    (sym c.forced.ensures ∙ c.in-Some.is) in
     let h = aim.0 in
-    (h.0, omega (arith, h.1, c.requires.0.few_atoms))
+    (h.0, omega (arith, h.1, c.args.t.now.laid.few_atoms))
 
-pub loop-side-smaller : goal.loop-side-smaller
-loop-side-smaller c =
-    let aim : In c.args.tb.atoms c.in-Set.p × (valued c.loop-side.side.values c.in-Set.p ≡ undefined) =
+pub loop-p-smaller : goal.loop-p-smaller
+loop-p-smaller c =
+    let aim : In c.args.t.now.places.atoms c.in-Some.p × (valued c.loop-p.side.values c.in-Some.p ≡ undefined) =
     let a = c.args in
     let p = c.requires in
-    forced_open (rule_at a.t.now a.at) a.tb.atoms (rule_in_lem a.t.now a.tb p.0 a.at p.1) (valued c.loop-side.side.values) c.in-Set.p c.in-Set.v
-    (sym c.forced-next.ensures ∙ c.in-Set.is) in
-    let N = c.args.tb.atoms in
+    forced_open (rule_at a.t.now.words.now a.at) a.t.now.places.atoms (rule_in_lem a.t.now.words.now a.t.now.places c.args.t.now.laid a.at p) (valued c.loop-p.side.values) c.in-Some.p c.in-Some.v
+    (sym c.forced.ensures ∙ c.in-Some.is) in
+    let N = c.args.t.now.places.atoms in
     let h = aim in
-    let q = c.in-Set.p in
-    let v = c.in-Set.v in
-    let vs = c.loop-side.side.values in
+    let q = c.in-Some.p in
+    let v = c.in-Some.v in
+    let vs = c.loop-p.side.values in
     let e = undefined_alike (valued c.set-side.result.values) (put q (defined v 0) (valued vs)) c.set-side.ensures.like.cells N in
     let l = undefined_put N (valued vs) q v 0 h.0 h.1 in
     omega (arith, e, l)
 
-pub loop-side-preserved : goal.loop-side-preserved
-loop-side-preserved c =
+pub loop-p-preserved : goal.loop-p-preserved
+loop-p-preserved c =
     let a = c.args in
-    let r = rule_at a.t.now a.at in
-    let w = work_of c.loop-side.side in
-    let q = c.in-Set.p in
-    let v = c.in-Set.v in (
+    let r = rule_at a.t.now.words.now a.at in
+    let w = work_of c.loop-p.side in
+    let q = c.in-Some.p in
+    let v = c.in-Some.v in (
       like_then (like_e (some r) no_levels no_levels c.set-side.ensures.like)
-          (subst (λ (u : Work). Like u (step_e (some r) no_levels (work_of a.side))) (forced_set r no_levels w q v (sym c.forced-next.ensures ∙ c.in-Set.is)) c.loop-side.invariant.0),
-      c.set-side.ensures.kept ∙ c.loop-side.invariant.1,
+          (subst (λ (u : Work). Like u (step_e (some r) no_levels (work_of a.side))) (forced_set r no_levels w q v (sym c.forced.ensures ∙ c.in-Some.is)) c.loop-p.invariant.0),
+      c.set-side.ensures.kept ∙ c.loop-p.invariant.1,
     )

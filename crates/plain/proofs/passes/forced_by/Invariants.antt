@@ -10,8 +10,8 @@ use Rattle.steps.specs.Steps.{step_e}
 use Rattle.plain.specs.Passes.{Like, work_of, undefined_to}
 use Rattle.plain.proofs.passes.forced_by.Given as goal
 
-abbrev pub invariant-loop-side : goal.invariant-loop-side
-invariant-loop-side l = Like (step_e (some (rule_at l.t l.at)) no_levels (work_of l.side)) (step_e (some (rule_at l.t l.at)) no_levels (work_of l.initial.side)) × (l.side.choices ≡ l.initial.side.choices)
+abbrev pub invariant-loop-p : goal.invariant-loop-p
+invariant-loop-p l = Like (step_e (some (rule_at l.t.words.now l.at)) no_levels (work_of l.side)) (step_e (some (rule_at l.t.words.now l.at)) no_levels (work_of l.initial.side)) × (l.side.choices ≡ l.initial.side.choices)
 
-abbrev pub decreases-loop-side : goal.decreases-loop-side
-decreases-loop-side l = undefined_to l.tb.atoms (valued l.side.values)
+abbrev pub decreases-loop-p : goal.decreases-loop-p
+decreases-loop-p l = undefined_to l.t.places.atoms (valued l.side.values)

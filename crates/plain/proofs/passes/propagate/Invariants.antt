@@ -13,9 +13,9 @@ use Rattle.plain.proofs.passes.propagate.Given as goal
 abbrev pub invariant-loop-side : goal.invariant-loop-side
 invariant-loop-side l =
     (l.side.conflict ≡ false)
-    × ((f : ℕ) × (undefined_to l.tb.atoms (valued l.side.values) < f)
-    × Like (passes (program_of l.t l.tb) l.tb.atoms f (work_of l.side)) (passes (program_of l.t l.tb) l.tb.atoms (suc l.tb.atoms) (work_of l.initial.side)))
+    × ((f : ℕ) × (undefined_to l.t.places.atoms (valued l.side.values) < f)
+    × Like (passes (program_of l.t.words.now l.t.places) l.t.places.atoms f (work_of l.side)) (passes (program_of l.t.words.now l.t.places) l.t.places.atoms (suc l.t.places.atoms) (work_of l.initial.side)))
     × (l.side.choices ≡ l.initial.side.choices)
 
 abbrev pub decreases-loop-side : goal.decreases-loop-side
-decreases-loop-side l = undefined_to l.tb.atoms (valued l.side.values)
+decreases-loop-side l = undefined_to l.t.places.atoms (valued l.side.values)

@@ -12,21 +12,21 @@ use Rattle.reach.proofs.arcs.targets.Goals as goal
 
 pub returns-then-added : goal.returns-then-added
 returns-then-added c =
-    let words : let a = c.args in c.part-l.result.now ≡ part_at a.t.now (aggs_at a.t.now a.at) = c.part-l.ensures ∙ ap (part_at c.args.t.now) c.literals_at-literals.ensures in
-    let body : let a = c.args in c.part-body.result.now ≡ part_at a.t.now (pos_at a.t.now a.at) = c.part-body.ensures ∙ ap (part_at c.args.t.now) c.past-positive.ensures in
+    let words : let a = c.args in c.part-l.result.now ≡ part_at a.t.now.words.now (aggs_at a.t.now.words.now a.at) = c.part-l.ensures ∙ ap (part_at c.args.t.now.words.now) c.literals_at-literals.ensures in
+    let body : let a = c.args in c.part-body.result.now ≡ part_at a.t.now.words.now (pos_at a.t.now.words.now a.at) = c.part-body.ensures ∙ ap (part_at c.args.t.now.words.now) c.past-positive.ensures in
     let positives : let a = c.args in
-    row c.with_atoms-plain.result ≡ union (listed (part_at a.t.now (pos_at a.t.now a.at))) (row a.set) = c.with_atoms-plain.ensures ∙ ap (λ (l : List ℤ). union (listed l) (row c.args.set)) (body) in
+    row c.with_atoms-plain.result ≡ union (listed (part_at a.t.now.words.now (pos_at a.t.now.words.now a.at))) (row a.set) = c.with_atoms-plain.ensures ∙ ap (λ (l : List ℤ). union (listed l) (row c.args.set)) (body) in
     let a = c.args in
-    let t = a.t.now in
+    let t = a.t.now.words.now in
     c.with_literals.ensures ∙ ap (λ (l : List ℤ). union (literals t l) (row c.with_atoms-plain.result)) (words)
     ∙ ap (union (literals t (part_at t (aggs_at t a.at)))) (positives) ∙ targets_added t a.at (row a.set)
     ∙ ap (λ (b : Bool). union (targets b (rule_at t a.at)) (row a.set)) (sym c.if-added.true)
 
 pub returns : goal.returns
 returns c =
-    let body : let a = c.args in c.part-body.result.now ≡ part_at a.t.now (pos_at a.t.now a.at) = c.part-body.ensures ∙ ap (part_at c.args.t.now) c.past-positive.ensures in
+    let body : let a = c.args in c.part-body.result.now ≡ part_at a.t.now.words.now (pos_at a.t.now.words.now a.at) = c.part-body.ensures ∙ ap (part_at c.args.t.now.words.now) c.past-positive.ensures in
     let positives : let a = c.args in
-    row c.with_atoms-plain.result ≡ union (listed (part_at a.t.now (pos_at a.t.now a.at))) (row a.set) = c.with_atoms-plain.ensures ∙ ap (λ (l : List ℤ). union (listed l) (row c.args.set)) (body) in
+    row c.with_atoms-plain.result ≡ union (listed (part_at a.t.now.words.now (pos_at a.t.now.words.now a.at))) (row a.set) = c.with_atoms-plain.ensures ∙ ap (λ (l : List ℤ). union (listed l) (row c.args.set)) (body) in
     let a = c.args in
-    let t = a.t.now in
+    let t = a.t.now.words.now in
     positives ∙ targets_plain t a.at (row a.set) ∙ ap (λ (b : Bool). union (targets b (rule_at t a.at)) (row a.set)) (sym c.if-added.false)

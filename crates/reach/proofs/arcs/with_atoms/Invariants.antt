@@ -1,14 +1,10 @@
--- `reach::arcs::with_atoms` meets its contract. The invariant: the set so far is the atoms from index i on, joined to the set at the start. Assumes nothing.
+-- `reach::arcs::with_atoms` meets its contract. The invariant: the set so far and the atoms to come are all atoms and the set at the start. Assumes nothing.
 use mathlib.Core.Path.{◌≡◌}
-use Prim.Native.Nat.{◌≤◌}
-use lib.ListN.{length, drop}
+use lib.ListN.{drop}
 use Rattle.levels.specs.Levels.{union}
 use Rattle.levels.specs.View.{row}
 use Rattle.reach.specs.Arcs.{listed}
 use Rattle.reach.proofs.arcs.with_atoms.Given as goal
 
-abbrev pub invariant-loop-i : goal.invariant-loop-i
-invariant-loop-i l = (l.i ≤ length l.l) × (row l.all ≡ union (listed (drop l.i l.l)) (row l.initial.all))
-
-abbrev pub decreases-loop-i : goal.decreases-loop-i
-decreases-loop-i l = l.i
+abbrev pub invariant-loop-w : goal.invariant-loop-w
+invariant-loop-w l = union (listed (drop l.w-index l.l)) (row l.all) ≡ union (listed l.l) (row l.initial.all)

@@ -2,7 +2,7 @@
 -- yet marked. Assumes nothing.
 use Prim.Native.Nat.{ℕ, suc, ◌<◌}
 use native.Mathlib.Omega.{arith}
-use lib.ListN.{get_or}
+use lib.ListN.{length, get_or}
 use Rattle.layout.specs.Layout.{program_of}
 use Rattle.levels.specs.View.{row}
 use Rattle.reach.specs.Arcs.{arcs_of}
@@ -15,22 +15,22 @@ use Rattle.reach.proofs.back.back.Goals as goal
 pub loop-found-init : goal.loop-found-init
 loop-found-init c =
     let a = c.args in
-    back_first (arcs_of a.added (program_of a.t.now a.tb)) a.p a.list.now a.many c.requires.4 (row c.single-alone.result) c.single-alone.ensures c.requires.2 (omega (arith, c.requires.3, c.requires.0.few_atoms))
+    back_first (arcs_of a.added (program_of a.t.now.words.now a.t.now.places)) a.p a.list.now (length a.list.now) c.requires.3 (row c.single-alone.result) c.single-alone.ensures c.requires.1 (omega (arith, c.requires.2, c.args.t.now.laid.few_atoms))
 
 pub walk-next-requires : goal.walk-next-requires
 walk-next-requires c =
     let a = c.args in
-    let P = program_of a.t.now a.tb in
-    let near : (i : ℕ) → i < a.many → get_or a.list.now i 0 < a.tb.atoms =
+    let P = program_of a.t.now.words.now a.t.now.places in
+    let near : (i : ℕ) → i < length a.list.now → get_or a.list.now i 0 < a.t.now.places.atoms =
     λ i h.
-    let w = chain_inside a.added a.tb.atoms P (laid_inside a.t.now a.tb c.requires.0) a.p (suc (get_or a.list.now i 0)) (c.requires.2, c.requires.3) (c.requires.4.each i h) in
+    let w = chain_inside a.added a.t.now.places.atoms P (laid_inside a.t.now.words.now a.t.now.places c.args.t.now.laid) a.p (suc (get_or a.list.now i 0)) (c.requires.1, c.requires.2) (c.requires.3.each i h) in
     omega (arith, w.1) in
-    (c.requires.0, c.requires.1, c.requires.4.few, near, c.loop-found.invariant.fits)
+    (c.requires.0, c.requires.3.few, near, c.loop-found.invariant.fits)
 
 pub returns-then-next-found : goal.returns-then-next-found
 returns-then-next-found c =
     let a = c.args in
-    back_end (arcs_of a.added (program_of a.t.now a.tb)) a.p a.list.now a.many c.requires.4 (row c.loop-found.found.marks) c.loop-found.found.count (row c.walk-next.result.marks) c.walk-next.result.count
+    back_end (arcs_of a.added (program_of a.t.now.words.now a.t.now.places)) a.p a.list.now (length a.list.now) c.requires.3 (row c.loop-found.found.marks) c.loop-found.found.count (row c.walk-next.result.marks) c.walk-next.result.count
     c.loop-found.invariant c.walk-next.ensures c.if-next-found.true
 
 pub loop-found-smaller : goal.loop-found-smaller
@@ -40,5 +40,5 @@ loop-found-smaller c =
 pub loop-found-preserved : goal.loop-found-preserved
 loop-found-preserved c =
     let a = c.args in
-    back_on (arcs_of a.added (program_of a.t.now a.tb)) a.p a.list.now a.many c.requires.4 (row c.loop-found.found.marks) c.loop-found.found.count (row c.walk-next.result.marks) c.walk-next.result.count
+    back_on (arcs_of a.added (program_of a.t.now.words.now a.t.now.places)) a.p a.list.now (length a.list.now) c.requires.3 (row c.loop-found.found.marks) c.loop-found.found.count (row c.walk-next.result.marks) c.walk-next.result.count
     c.loop-found.invariant c.walk-next.ensures

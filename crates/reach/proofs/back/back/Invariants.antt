@@ -8,7 +8,7 @@ use Rattle.reach.proofs.Leading.{Back}
 use Rattle.reach.proofs.back.back.Given as goal
 
 abbrev pub invariant-loop-found : goal.invariant-loop-found
-invariant-loop-found l = Back (arcs_of l.added (program_of l.t l.tb)) l.p (row l.found.marks) l.found.count
+invariant-loop-found l = Back (arcs_of l.added (program_of l.t.words.now l.t.places)) l.p (row l.found.marks) l.found.count
 
 abbrev pub decreases-loop-found : goal.decreases-loop-found
 decreases-loop-found l = 256 - l.found.count

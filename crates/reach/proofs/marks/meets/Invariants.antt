@@ -5,7 +5,4 @@ use Rattle.levels.specs.View.{row}
 use Rattle.reach.proofs.marks.meets.Given as goal
 
 abbrev pub invariant-loop-l : goal.invariant-loop-l
-invariant-loop-l l = (l.l ≤ l.n) × ((q : ℕ) → l.l < q → q ≤ l.n → Is (row l.a q) → Is (row l.b q) → ⊥)
-
-abbrev pub decreases-loop-l : goal.decreases-loop-l
-decreases-loop-l l = l.l
+invariant-loop-l l = ((q : ℕ) → l.l < q → q ≤ l.fn.n → Is (row l.a q) → Is (row l.b q) → ⊥)

@@ -11,15 +11,17 @@ bounds-list-end c =
     let a = c.args in
     room (row a.seen.marks) a.list.now a.seen.count a.l c.requires.2 c.requires.0 c.requires.1 (sym c.has-2.ensures ∙ c.if-has.false)
 
-pub overflow_add-count : goal.overflow_add-count
-overflow_add-count c =
+pub more-requires : goal.more-requires
+more-requires c =
     let a = c.args in
-    let h = room (row a.seen.marks) a.list.now a.seen.count a.l c.requires.2 c.requires.0 c.requires.1 (sym c.has-2.ensures ∙ c.if-has.false) in omega (arith, h)
+    let h = room (row a.seen.marks) a.list.now a.seen.count a.l c.requires.2 c.requires.0 c.requires.1 (sym c.has-2.ensures ∙ c.if-has.false) in
+    (c.requires.0, c.requires.1, omega (arith, h))
 
 pub returns : goal.returns
 returns c =
     let a = c.args in
     let T = row a.to in
     let here : Is (T a.l) = sym c.has.ensures ∙ c.if-not-has.false in
-    put_new _ (row a.seen.marks) (row c.with-next.result) a.list.now a.seen.count a.l c.requires.2 c.requires.0 c.requires.1 (sym c.has-2.ensures ∙ c.if-has.false)
-    c.with-next.ensures (omega arith, omega arith, here) (λ q t. omega (arith, t.0, t.1))
+    rw c.more.ensures.1
+    (put_new _ (row a.seen.marks) (row c.more.result.marks) a.list.now a.seen.count a.l c.requires.2 c.requires.0 c.requires.1 (sym c.has-2.ensures ∙ c.if-has.false)
+    c.more.ensures.0 (omega arith, omega arith, here) (λ q t. omega (arith, t.0, t.1)))

@@ -5,8 +5,5 @@ use Rattle.reach.specs.Arcs.{arcs_of}
 use Rattle.reach.specs.Visits.{Settled}
 use Rattle.reach.proofs.settling.settled.Given as goal
 
-abbrev pub invariant-loop-left : goal.invariant-loop-left
-invariant-loop-left l = Settled (arcs_of l.added (program_of l.t l.tb)) (row l.all)
-
-abbrev pub decreases-loop-left : goal.decreases-loop-left
-decreases-loop-left l = l.left
+abbrev pub invariant-loop : goal.invariant-loop
+invariant-loop l = Settled (arcs_of l.added (program_of l.t.words.now l.t.places)) (row l.all)

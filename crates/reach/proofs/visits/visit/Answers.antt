@@ -17,7 +17,7 @@ use Rattle.reach.proofs.visits.visit.Goals as goal
 pub loop-i-init : goal.loop-i-init
 loop-i-init c =
     let a = c.args in
-    visit_first (arcs_of a.added (program_of a.t.now a.tb)) a.p (row c.start-seen.result.marks) c.start-seen.new.list c.start-seen.result.count c.start-seen.ensures.0 c.start-seen.ensures.1
+    visit_first (arcs_of a.added (program_of a.t.now.words.now a.t.now.places)) a.p (row c.start-seen.result.marks) c.start-seen.new.list c.start-seen.result.count c.start-seen.ensures.0 c.start-seen.ensures.1
 
 pub bounds-list-i : goal.bounds-list-i
 bounds-list-i c =
@@ -27,13 +27,13 @@ bounds-list-i c =
 
 pub from_atom-to-requires : goal.from_atom-to-requires
 from_atom-to-requires c =
-    let in-range : In c.args.tb.atoms (suc (get_or c.loop-i.list c.loop-i.i 0)) =
+    let in-range : In c.args.t.now.places.atoms (suc (get_or c.loop-i.list c.loop-i.i 0)) =
     let a = c.args in
     let q = suc (get_or c.loop-i.list c.loop-i.i 0) in
-    chain_inside a.added a.tb.atoms (program_of a.t.now a.tb) (laid_inside a.t.now a.tb c.requires.0) a.p q (c.requires.2, c.requires.3)
+    chain_inside a.added a.t.now.places.atoms (program_of a.t.now.words.now a.t.now.places) (laid_inside a.t.now.words.now a.t.now.places c.args.t.now.laid) a.p q (c.requires.1, c.requires.2)
     (c.loop-i.invariant.reached q (c.loop-i.invariant.queue.each c.loop-i.i c.loop-i-test.true)) in
     let h = in-range in
-    (c.requires.0, c.requires.1, omega arith, omega (arith, h.1))
+    (c.requires.0, omega arith, omega (arith, h.1))
 
 pub loop-i-smaller : goal.loop-i-smaller
 loop-i-smaller c =
@@ -44,13 +44,13 @@ loop-i-smaller c =
 pub loop-i-preserved : goal.loop-i-preserved
 loop-i-preserved c =
     let a = c.args in
-    let P = program_of a.t.now a.tb in
+    let P = program_of a.t.now.words.now a.t.now.places in
     let next : get_or c.loop-i.list c.loop-i.i 0 + 1 ≡ suc (get_or c.loop-i.list c.loop-i.i 0) = omega arith in
-    visit_on (arcs_of a.added P) a.p a.tb.atoms (arcs_inside a.added a.tb.atoms P (laid_inside a.t.now a.tb c.requires.0))
+    visit_on (arcs_of a.added P) a.p a.t.now.places.atoms (arcs_inside a.added a.t.now.places.atoms P (laid_inside a.t.now.words.now a.t.now.places c.args.t.now.laid))
     (row c.loop-i.seen.marks) c.loop-i.list c.loop-i.seen.count c.loop-i.i c.loop-i.invariant c.loop-i-test.true
     (row c.from_atom-to.result) (c.from_atom-to.ensures ∙ ap (arcs_of a.added P) next) (row c.put-seen.result.marks) c.put-seen.new.list c.put-seen.result.count c.put-seen.ensures
 
 pub returns : goal.returns
 returns c =
     let a = c.args in
-    visit_end (arcs_of a.added (program_of a.t.now a.tb)) a.p (row c.loop-i.seen.marks) c.loop-i.list c.loop-i.seen.count c.loop-i.i c.loop-i.invariant c.loop-i-test.false
+    visit_end (arcs_of a.added (program_of a.t.now.words.now a.t.now.places)) a.p (row c.loop-i.seen.marks) c.loop-i.list c.loop-i.seen.count c.loop-i.i c.loop-i.invariant c.loop-i-test.false

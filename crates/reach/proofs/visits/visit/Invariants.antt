@@ -8,7 +8,7 @@ use Rattle.reach.proofs.Visiting.{Visiting}
 use Rattle.reach.proofs.visits.visit.Given as goal
 
 abbrev pub invariant-loop-i : goal.invariant-loop-i
-invariant-loop-i l = Visiting (arcs_of l.added (program_of l.t l.tb)) l.p (row l.seen.marks) l.list l.seen.count l.i
+invariant-loop-i l = Visiting (arcs_of l.added (program_of l.t.words.now l.t.places)) l.p (row l.seen.marks) l.list l.seen.count l.i
 
 abbrev pub decreases-loop-i : goal.decreases-loop-i
 decreases-loop-i l = 256 - l.i

@@ -8,6 +8,3 @@ use Rattle.read_notation.proofs.places.place_of.Given as goal
 
 abbrev pub invariant-loop-i : goal.invariant-loop-i
 invariant-loop-i l = (l.at ≤ length l.text) × (l.line ≤ l.i + 1) × (l.column ≤ l.i + 1) × (place_after (placed l.line l.column) (take (l.at - l.i) (drop l.i l.text)) ≡ place_of l.text l.at)
-
-abbrev pub decreases-loop-i : goal.decreases-loop-i
-decreases-loop-i l = l.at - l.i

@@ -1,5 +1,5 @@
--- `relaxer::choosing::choose` meets its contract. The invariant of its loop: the n places that stand behind the bounds, and those to come, are the places of all rules that
--- take part; the words before, and those behind the room for all rules, stay. The measure is the number of rules to come. Assumes nothing.
+-- `relaxer::choosing::choose` meets its contract. The invariant of its loop: the places that stand behind the bounds, and those to come, are the places of all rules that
+-- take part; the words before, and those behind the room for all rules, stay. Assumes nothing.
 use mathlib.Core.Path.{◌≡◌}
 use mathlib.Core.List.{◌++◌}
 use Prim.Native.Nat.{suc, ◌+◌, ◌-◌, ◌≤◌}
@@ -13,8 +13,6 @@ use Rattle.relaxer.proofs.choosing.choose.Given as goal
 
 abbrev pub invariant-loop-i : goal.invariant-loop-i
 invariant-loop-i l =
-    (l.i ≤ l.tb.rules) × (l.n ≤ l.i) × (length l.lists ≡ size) × (take bounds l.lists ≡ take bounds l.initial.lists) × (drop (bounds + l.tb.rules) l.lists ≡ drop (bounds + l.tb.rules) l.initial.lists)
-    × RulesLie l.tb.atoms l.tb.aggregates l.t l.at (l.tb.rules - l.i) × (part l.lists bounds l.n ++ kept_from (row l.kept) l.t l.at (suc l.i) (l.tb.rules - l.i) ≡ kept_places (row l.kept) l.t l.tb)
-
-abbrev pub decreases-loop-i : goal.decreases-loop-i
-decreases-loop-i l = l.tb.rules - l.i
+    (bounds ≤ l.end) × (l.end ≤ bounds + l.i) × (length l.lists ≡ size) × (take bounds l.lists ≡ take bounds l.initial.lists) × (drop (bounds + l.fn.t.places.rules) l.lists ≡ drop (bounds + l.fn.t.places.rules) l.initial.lists)
+    × RulesLie l.fn.t.places.atoms l.fn.t.places.aggregates l.t.words.now l.at (l.fn.t.places.rules - l.i)
+    × (part l.lists bounds (l.end - bounds) ++ kept_from (row l.kept) l.t.words.now l.at (suc l.i) (l.fn.t.places.rules - l.i) ≡ kept_places (row l.kept) l.t.words.now l.fn.t.places)

@@ -1,5 +1,4 @@
--- `second_search::held::start` meets its contract. The invariant of its loop: the atoms 1 .. i stand as at the start. The measure is the number of atoms to come.
--- Assumes nothing.
+-- `second_search::held::start` meets its contract. The invariant of its loop: the atoms 1 .. i stand as at the start. Assumes nothing.
 use Prim.Native.Nat.{ℕ, suc, ◌+◌}
 use native.Mathlib.Omega.{arith}
 use native.Mathlib.Numerals.{add-one}

@@ -1,49 +1,30 @@
--- `second_search::held::undo` meets its contract. The invariant of its loop: the cells above index i are undone, the others as they were. Assumes nothing.
-use Prim.Native.Nat.{ℕ, suc, ◌-◌}
+-- `second_search::held::undo` meets its contract. The invariant of its loop: the cells up to index i are undone, the others as they were. Assumes nothing.
 use native.Mathlib.Omega.{arith}
+use Prim.Native.Nat.{ℕ}
 use mathlib.Core.Path.{◌≡◌, ap, ◌∙◌}
 use mathlib.Core.List.{map}
 use Rattle.interpretation.proofs.Laws.{partly, partly_start, partly_end}
 use Rattle.second_search.specs.Looking.{record_at, cells_at}
 use Rattle.second_search.proofs.Arrays.{whole_set, undo_at, keep_at}
 use Rattle.second_search.proofs.held.undo.Goals as goal
+use Rattle.second_search.proofs.held.undo.Goals.{then-m-levels, else-m-levels}
 
 pub loop-i-init : goal.loop-i-init
-loop-i-init c = let a = c.args in let h = c.requires.0 in (omega arith, c.requires, partly_start a.m 256 a.values.now (map record_at a.levels.now) (omega arith))
-
-pub loop-i-preserved-then-m-levels : goal.loop-i-preserved-then-m-levels
-loop-i-preserved-then-m-levels c =
-    let so_far : let a = c.args in
-    cells_at c.loop-i.values c.loop-i.levels ≡ partly a.m (suc (c.loop-i.i - 1)) (cells_at a.values.now a.levels.now) =
-    let a = c.args in
-    let h = c.loop-i-test.true in
-    let s : c.loop-i.i ≡ suc (c.loop-i.i - 1) = omega arith in
-    c.loop-i.invariant.2 ∙ ap (λ (k : ℕ). partly a.m k (cells_at a.values.now a.levels.now)) s in
-    let a = c.args in
-    let h = c.loop-i.invariant.0 in
-    let k = c.loop-i-test.true in
-    let w = c.loop-i.invariant.1 in (
-      omega arith,
-      whole_set c.loop-i.values c.loop-i.levels (c.loop-i.i - 1) 0 0 w,
-      undo_at a.m (c.loop-i.i - 1) (cells_at a.values.now a.levels.now) c.loop-i.values c.loop-i.levels w (so_far) (omega arith) c.if-m-levels.true,
-    )
+loop-i-init c = let a = c.args in (c.requires, partly_start a.m a.values.now (map record_at a.levels.now))
 
 pub loop-i-preserved : goal.loop-i-preserved
 loop-i-preserved c =
-    let so_far : let a = c.args in
-    cells_at c.loop-i.values c.loop-i.levels ≡ partly a.m (suc (c.loop-i.i - 1)) (cells_at a.values.now a.levels.now) =
-    let a = c.args in
-    let h = c.loop-i-test.true in
-    let s : c.loop-i.i ≡ suc (c.loop-i.i - 1) = omega arith in
-    c.loop-i.invariant.2 ∙ ap (λ (k : ℕ). partly a.m k (cells_at a.values.now a.levels.now)) s in
-    let a = c.args in
-    let h = c.loop-i.invariant.0 in
-    let w = c.loop-i.invariant.1 in
-    (omega arith, w, keep_at a.m (c.loop-i.i - 1) (cells_at a.values.now a.levels.now) c.loop-i.values c.loop-i.levels w (so_far) c.if-m-levels.false)
+    let a = cells_at c.args.values.now c.args.levels.now in
+    let l = c.loop-i in
+    let w = l.invariant.0 in
+    elim c.if-m-levels.branch [
+      | then-m-levels x ↦ rw (x.values-is, x.levels-is) (whole_set l.values l.levels l.i 0 0 w, undo_at c.args.m l.i a l.values l.levels w l.invariant.1 (omega arith) x.if-m-levels.true)
+      | else-m-levels x ↦ rw (x.values-is, x.levels-is) (w, keep_at c.args.m l.i a l.values l.levels w l.invariant.1 x.if-m-levels.false)
+    ]
 
 pub returns : goal.returns
 returns c =
     let a = c.args in
-    let h = c.loop-i-test.false in
-    let z : c.loop-i.i ≡ 0 = omega arith in
-    (c.loop-i.invariant.1, c.loop-i.invariant.2 ∙ ap (λ (k : ℕ). partly a.m k (cells_at a.values.now a.levels.now)) z ∙ partly_end a.m a.values.now (map record_at a.levels.now))
+    let z : c.loop-i.i ≡ 256 = omega arith in
+    let n = c.requires.0 in
+    (c.loop-i.invariant.0, c.loop-i.invariant.1 ∙ ap (λ (k : ℕ). partly a.m k (cells_at a.values.now a.levels.now)) z ∙ partly_end a.m 256 a.values.now (map record_at a.levels.now) (omega arith))

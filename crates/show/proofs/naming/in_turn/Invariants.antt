@@ -1,13 +1,11 @@
 -- `show::naming::in_turn` meets its contract. The invariant of its loop: the rules left from here take the aggregates in turn as all do from the start. Assumes nothing.
 use mathlib.Core.Path.{◌≡◌}
+use Prim.Native.Nat.{◌-◌}
 use Rattle.layout.specs.Layout.{RulesLie}
 use Rattle.aspif_parts.specs.Held.{numbered_from}
 use Rattle.notation.specs.Notation.{turns_all}
 use Rattle.show.proofs.naming.in_turn.Given as goal
 
-abbrev pub invariant-loop-left : goal.invariant-loop-left
-invariant-loop-left l =
-    RulesLie l.tb.atoms l.tb.aggregates l.t l.rule l.left × (turns_all l.d l.next (numbered_from l.t l.rule l.left) ≡ turns_all l.d l.initial.next (numbered_from l.t l.initial.rule l.initial.left))
-
-abbrev pub decreases-loop-left : goal.decreases-loop-left
-decreases-loop-left l = l.left
+abbrev pub invariant-loop : goal.invariant-loop
+invariant-loop l =
+    RulesLie l.t.places.atoms l.t.places.aggregates l.t.words.now l.rule (l.fn.t.places.rules - l.counter) × (turns_all l.d l.next (numbered_from l.t.words.now l.rule (l.fn.t.places.rules - l.counter)) ≡ turns_all l.d l.initial.next (numbered_from l.t.words.now l.initial.rule l.fn.t.places.rules))

@@ -10,7 +10,7 @@ use Rattle.show.proofs.naming.named.Goals as goal
 pub loop-d-init : goal.loop-d-init
 loop-d-init c =
     let args = c.args in
-    (omega arith, let k : args.tb.aggregates - 0 ≡ args.tb.aggregates = omega arith in ap (named_from (held_by args.t.now args.tb) 0) k ∙ named_is args.t.now args.tb)
+    (omega arith, let k : args.t.now.places.aggregates - 0 ≡ args.t.now.places.aggregates = omega arith in ap (named_from (held_by args.t.now.words.now args.t.now.places) 0) k ∙ named_is args.t.now.words.now args.t.now.places)
 
 pub returns-then-in_turn : goal.returns-then-in_turn
 returns-then-in_turn c =
@@ -19,7 +19,7 @@ returns-then-in_turn c =
     let at-loop-test = c.loop-d-test in
     let at-in-turn = c.in_turn in
     let at-if1 = c.if-in_turn in
-    sym (named_here (held_by args.t.now args.tb) at-loop.d (args.tb.aggregates - at-loop.d) (omega (arith, at-loop-test.true)) (sym at-in-turn.ensures ∙ at-if1.true)) ∙ at-loop.invariant.1
+    sym (named_here (held_by args.t.now.words.now args.t.now.places) at-loop.d (args.t.now.places.aggregates - at-loop.d) (omega (arith, at-loop-test.true)) (sym at-in-turn.ensures ∙ at-if1.true)) ∙ at-loop.invariant.1
 
 pub loop-d-preserved : goal.loop-d-preserved
 loop-d-preserved c =
@@ -28,11 +28,11 @@ loop-d-preserved c =
     let at-loop-test = c.loop-d-test in
     let at-in-turn = c.in_turn in
     let at-if1 = c.if-in_turn in
-    (omega (arith, at-loop-test.true), let k : args.tb.aggregates - (at-loop.d + 1) ≡ args.tb.aggregates - at-loop.d - 1 = omega arith in ap (named_from (held_by args.t.now args.tb) (at-loop.d + 1)) k ∙ sym (named_later (held_by args.t.now args.tb) at-loop.d (args.tb.aggregates - at-loop.d) (omega (arith, at-loop-test.true)) (sym at-in-turn.ensures ∙ at-if1.false)) ∙ at-loop.invariant.1)
+    (omega (arith, at-loop-test.true), let k : args.t.now.places.aggregates - (at-loop.d + 1) ≡ args.t.now.places.aggregates - at-loop.d - 1 = omega arith in ap (named_from (held_by args.t.now.words.now args.t.now.places) (at-loop.d + 1)) k ∙ sym (named_later (held_by args.t.now.words.now args.t.now.places) at-loop.d (args.t.now.places.aggregates - at-loop.d) (omega (arith, at-loop-test.true)) (sym at-in-turn.ensures ∙ at-if1.false)) ∙ at-loop.invariant.1)
 
 pub returns : goal.returns
 returns c =
     let args = c.args in
-    let at-loop = c.loop-d in
-    let at-loop-test = c.loop-d-test in
-    sym (named_last (held_by args.t.now args.tb) at-loop.d (args.tb.aggregates - at-loop.d) (omega (arith, at-loop-test.false))) ∙ at-loop.invariant.1
+    let d = c.loop-d.d in
+    let e : args.t.now.places.aggregates ≡ d = omega arith in
+    e ∙ sym (named_last (held_by args.t.now.words.now args.t.now.places) d (args.t.now.places.aggregates - d) (omega arith)) ∙ c.loop-d.invariant.1

@@ -7,7 +7,4 @@ use Rattle.show.proofs.naming.named.Given as goal
 
 abbrev pub invariant-loop-d : goal.invariant-loop-d
 invariant-loop-d l =
-    (l.d ≤ l.tb.aggregates) × (named_from (held_by l.t l.tb) l.d (l.tb.aggregates - l.d) ≡ named (held_by l.t l.tb))
-
-abbrev pub decreases-loop-d : goal.decreases-loop-d
-decreases-loop-d l = l.tb.aggregates - l.d
+    (l.d ≤ l.t.places.aggregates) × (named_from (held_by l.t.words.now l.t.places) l.d (l.t.places.aggregates - l.d) ≡ named (held_by l.t.words.now l.t.places))

@@ -14,4 +14,4 @@ returns c =
     let at-put-atoms = c.put_atoms-after_positive in
     let at-put-atoms2 = c.put_atoms-after_barred in
     let at-put-literals = c.put_literals in
-    rw (← body_joined args.d (held_by args.t.now args.tb).aggregates (atoms args.positive.now) (atoms args.barred.now) args.literals.now) (rw (at_some.ensures ∙ some_atoms args.positive.now, at-some2.ensures ∙ some_atoms args.barred.now) at (put_then at-put-atoms.ensures (put_then at-put-atoms2.ensures at-put-literals.ensures)))
+    rw (← body_joined args.d (held_by args.t.now.words.now args.t.now.places).aggregates (atoms args.positive.now) (atoms args.barred.now) args.literals.now) (rw (at_some.ensures ∙ some_atoms args.positive.now, at-some2.ensures ∙ some_atoms args.barred.now) at (put_then at-put-atoms.ensures (put_then at-put-atoms2.ensures at-put-literals.ensures)))

@@ -17,4 +17,4 @@ returns c =
     let at-put-neck = c.put_neck-after_neck in
     let at-put-body = c.put_body-after_body in
     let at-put = c.put in
-    rw (← body_some args.d (held_by args.t.now args.tb).aggregates (atoms args.positive.now) (atoms args.barred.now) args.literals.now) (rw (at-some4.ensures ∙ some_atoms args.head.now, at_some.ensures ∙ some_atoms args.positive.now, at-some2.ensures ∙ some_atoms args.barred.now, at-some3.ensures) at (put_then at-put-atoms.ensures (put_then at-put-neck.ensures (put_then at-put-body.ensures at-put.ensures))))
+    rw (← body_some args.d (held_by args.t.now.words.now args.t.now.places).aggregates (atoms args.positive.now) (atoms args.barred.now) args.literals.now) (rw (at-some4.ensures ∙ some_atoms args.head.now, at_some.ensures ∙ some_atoms args.positive.now, at-some2.ensures ∙ some_atoms args.barred.now, at-some3.ensures) at (put_then at-put-atoms.ensures (put_then at-put-neck.ensures (put_then at-put-body.ensures at-put.ensures))))

@@ -14,4 +14,4 @@ returns c =
     let at-put-between2 = c.put_between-after_not in
     let at_atom = c.atom in
     let at-put-reference = c.put_reference in
-    rw (← literal_parts args.d (held_by args.t.now args.tb).aggregates (get_or args.l.now args.i (pos 0))) (rw (at-negated.ensures, at_atom.ensures) at (put_then at-put-between.ensures (put_then at-put-between2.ensures at-put-reference.ensures)))
+    rw (← literal_parts args.d (held_by args.t.now.words.now args.t.now.places).aggregates (get_or args.l.now args.i (pos 0))) (rw (at-negated.ensures, at_atom.ensures) at (put_then at-put-between.ensures (put_then at-put-between2.ensures at-put-reference.ensures)))

@@ -12,11 +12,11 @@ loop-i-preserved c =
     let at-loop = c.loop-i in
     let at-loop-test = c.loop-i-test in
     let at-put-literal = c.put_literal-to in
-    (omega arith, left_step (joined_on comma at-loop.follows (literal_text args.d (held_by args.t.now args.tb).aggregates) args.l.now at-loop.i at-loop-test.true) at-loop.invariant.1 at-put-literal.ensures)
+    (omega arith, left_step (joined_on comma at-loop.follows (literal_text args.d (held_by args.t.now.words.now args.t.now.places).aggregates) args.l.now at-loop.i at-loop-test.true) at-loop.invariant.1 at-put-literal.ensures)
 
 pub returns : goal.returns
 returns c =
     let args = c.args in
     let at-loop = c.loop-i in
     let at-loop-test = c.loop-i-test in
-    left_done (joined_none comma at-loop.follows (literal_text args.d (held_by args.t.now args.tb).aggregates) args.l.now at-loop.i at-loop-test.false) at-loop.invariant.1
+    left_done (joined_none comma at-loop.follows (literal_text args.d (held_by args.t.now.words.now args.t.now.places).aggregates) args.l.now at-loop.i at-loop-test.false) at-loop.invariant.1

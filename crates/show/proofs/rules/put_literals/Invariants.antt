@@ -1,6 +1,6 @@
 -- `show::rules::put_literals` meets its contract. The invariant of its loop: to lay the literals left from here is to lay all from the start. Assumes nothing.
 use mathlib.Core.List.{map}
-use Prim.Native.Nat.{◌-◌, ◌≤◌}
+use Prim.Native.Nat.{◌≤◌}
 use lib.ListN.{length, drop}
 use Rattle.aspif_parts.specs.Held.{held_by}
 use Rattle.bytes_out.proofs.Laws.{Left}
@@ -9,7 +9,4 @@ use Rattle.show.proofs.rules.put_literals.Given as goal
 
 abbrev pub invariant-loop-i : goal.invariant-loop-i
 invariant-loop-i l =
-    (l.i ≤ length l.l) × Left l.initial.out l.at (joined_from comma l.behind (map (literal_text l.d (held_by l.t l.tb).aggregates) l.l)) l.out l.to (joined_from comma l.follows (map (literal_text l.d (held_by l.t l.tb).aggregates) (drop l.i l.l)))
-
-abbrev pub decreases-loop-i : goal.decreases-loop-i
-decreases-loop-i l = length l.l - l.i
+    (l.i ≤ length l.l) × Left l.initial.out l.at (joined_from comma l.behind (map (literal_text l.d (held_by l.t.words.now l.t.places).aggregates) l.l)) l.out l.to (joined_from comma l.follows (map (literal_text l.d (held_by l.t.words.now l.t.places).aggregates) (drop l.i l.l)))

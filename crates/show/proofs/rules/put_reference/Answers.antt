@@ -12,4 +12,4 @@ returns c =
     let at-if1 = c.if-j-d in
     let at-start = c.start in
     let at-put-aggregate = c.put_aggregate in
-    rw (lt-leb args.j args.d at-if1.false) (rw (aggregate_is args.t.now args.tb pre.0 (args.j - 1) at-start.result (omega (arith, pre.1, pre.2)) at-start.ensures) at at-put-aggregate.ensures)
+    rw (lt-leb args.j args.d at-if1.false) (rw (aggregate_is args.t.now.words.now args.t.now.places c.args.t.now.laid (args.j - 1) at-start.result (omega (arith, pre.0, pre.1)) at-start.ensures) at at-put-aggregate.ensures)

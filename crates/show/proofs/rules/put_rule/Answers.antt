@@ -7,8 +7,8 @@ use Rattle.show.proofs.rules.put_rule.Goals as goal
 
 pub returns : goal.returns
 returns c =
-    let second : c.past-barred.result ≡ neg_at c.args.t.now c.args.rule = c.past-barred.ensures ∙ ap (past_at c.args.t.now) c.past-positive.ensures in
-    let third : c.past-literals.result ≡ aggs_at c.args.t.now c.args.rule = c.past-literals.ensures ∙ ap (past_at c.args.t.now) (second) in
+    let second : c.past-barred.result ≡ neg_at c.args.t.now.words.now c.args.rule = c.past-barred.ensures ∙ ap (past_at c.args.t.now.words.now) c.past-positive.ensures in
+    let third : c.past-literals.result ≡ aggs_at c.args.t.now.words.now c.args.rule = c.past-literals.ensures ∙ ap (past_at c.args.t.now.words.now) (second) in
     let args = c.args in
     let at-past = c.past-positive in
     let at_part = c.part-h in
@@ -16,4 +16,4 @@ returns c =
     let at-part3 = c.part-b in
     let at-part4 = c.part-l in
     let at-put-lists = c.put_lists in
-    rw (← rule_parts args.d (held_by args.t.now args.tb).aggregates args.t.now args.rule) (rw (at_part.ensures, at-part2.ensures ∙ ap (part_at args.t.now) at-past.ensures, at-part3.ensures ∙ ap (part_at args.t.now) (second), at-part4.ensures ∙ ap (part_at args.t.now) (third)) at at-put-lists.ensures)
+    rw (← rule_parts args.d (held_by args.t.now.words.now args.t.now.places).aggregates args.t.now.words.now args.rule) (rw (at_part.ensures, at-part2.ensures ∙ ap (part_at args.t.now.words.now) at-past.ensures, at-part3.ensures ∙ ap (part_at args.t.now.words.now) (second), at-part4.ensures ∙ ap (part_at args.t.now.words.now) (third)) at at-put-lists.ensures)

@@ -1,15 +1,11 @@
 -- `show::rules::put_rules` meets its contract. The invariant of its loop: to lay the lines of the rules left from here is to lay all from the start. Assumes nothing.
-use mathlib.Core.Path.{◌≡◌}
-use Prim.Native.Nat.{◌+◌}
+use Prim.Native.Nat.{◌+◌, ◌-◌}
 use Rattle.layout.specs.Layout.{RulesLie}
 use Rattle.aspif_parts.specs.Held.{numbered_from, held_by}
 use Rattle.bytes_out.proofs.Laws.{Left}
 use Rattle.notation.specs.Notation.{rules_text}
 use Rattle.show.proofs.rules.put_rules.Given as goal
 
-abbrev pub invariant-loop-left : goal.invariant-loop-left
-invariant-loop-left l =
-    RulesLie l.tb.atoms l.tb.aggregates l.t l.rule l.left × (l.number + l.left ≡ l.tb.rules + 1) × Left l.initial.out l.at (rules_text l.d (held_by l.t l.tb).aggregates 1 (held_by l.t l.tb).rules) l.out l.to (rules_text l.d (held_by l.t l.tb).aggregates l.number (numbered_from l.t l.rule l.left))
-
-abbrev pub decreases-loop-left : goal.decreases-loop-left
-decreases-loop-left l = l.left
+abbrev pub invariant-loop-i : goal.invariant-loop-i
+invariant-loop-i l =
+    RulesLie l.t.places.atoms l.t.places.aggregates l.t.words.now l.rule (l.fn.t.places.rules - l.i) × Left l.initial.out l.at (rules_text l.d (held_by l.t.words.now l.t.places).aggregates 1 (held_by l.t.words.now l.t.places).rules) l.out l.to (rules_text l.d (held_by l.t.words.now l.t.places).aggregates (l.i + 1) (numbered_from l.t.words.now l.rule (l.fn.t.places.rules - l.i)))

@@ -1,27 +1,19 @@
--- `solver::plans::first_bad` meets its contract. The invariant of its loop: what is left says the same as the whole. The measure is the number of bytes
--- still to come. Assumes nothing.
-use mathlib.Core.Path.{◌≡◌, sym, ap, ◌∙◌}
-use Prim.Native.Nat.{◌-◌, ◌+◌}
+-- `solver::plans::first_bad` meets its contract: what the library's `position` finds is the first bad byte. Assumes nothing.
+use borrow.Author.Rules.{rules}
+use mathlib.Core.Path.{◌≡◌, sym, ◌∙◌}
+use Prim.Native.Nat.{ℕ}
 use native.Mathlib.Omega.{arith}
-use Rattle.solver.specs.Plans.{bad_from}
-use Rattle.solver.proofs.Offered.{bad_none, bad_here, bad_later}
+use lib.Dec.{ltb}
+use lib.ListN.{take}
+use Rattle.std.proofs.lemmas.Iterator.{YieldsList-from_slice}
+use Rattle.std.proofs.lemmas.Iterator.Adapters.{position_from-zero}
+use Rattle.std.proofs.lemmas.Iterator.Search.{position_from_yields_List}
+use Rattle.solver.proofs.Offered.{bad_position}
 use Rattle.solver.proofs.plans.first_bad.Goals as goal
-
-pub returns-then-plan-i-gt1 : goal.returns-then-plan-i-gt1
-returns-then-plan-i-gt1 c =
-    let a = c.args in
-    let i = c.loop-i.i in
-    sym (bad_here a.plan.now i (a.n - i) (omega arith) c.if-plan-i-gt1.true) ∙ c.loop-i.invariant.1
-
-pub loop-i-preserved : goal.loop-i-preserved
-loop-i-preserved c =
-    let a = c.args in
-    let i = c.loop-i.i in
-    let e : a.n - (i + 1) ≡ a.n - i - 1 = omega arith in
-    (omega arith, ap (bad_from a.plan.now (i + 1)) e ∙ sym (bad_later a.plan.now i (a.n - i) (omega arith) c.if-plan-i-gt1.false) ∙ c.loop-i.invariant.1)
 
 pub returns : goal.returns
 returns c =
     let a = c.args in
-    let e : a.n - c.loop-i.i ≡ 0 = omega arith in
-    sym (bad_none a.plan.now c.loop-i.i) ∙ ap (bad_from a.plan.now c.loop-i.i) (sym e) ∙ c.loop-i.invariant.1
+    position_from_yields_List (λ (b : ℕ). ltb 1 b) _ _ _ c.position.ensures.ran (YieldsList-from_slice (take a.n a.plan.now) cc) (λ x b q k. search rules)
+    ∙ position_from-zero (λ (b : ℕ). ltb 1 b) (take a.n a.plan.now)
+    ∙ sym (bad_position a.plan.now a.n 0 (omega arith))

@@ -1,10 +1,9 @@
--- `solver::plans::write` meets its contract. The invariant of its loop: the first i bytes are the plan's, the others are as they were. The measure is the
--- number of bytes still to come. Assumes nothing.
+-- `solver::plans::write` meets its contract. The invariant of its loop: the first i bytes are the plan's, the others are as they were. Assumes nothing.
 use mathlib.Core.Path.{ap, ◌∙◌}
 use mathlib.Core.List.{List}
 use Prim.Native.Nat.{ℕ, ◌<◌}
 use native.Mathlib.Omega.{arith}
-use lib.ListN.{length, set, length-set}
+use lib.ListN.{length, set}
 use Rattle.interpretation.specs.State.{true_atoms}
 use Rattle.interpretation.specs.View.{valued}
 use Rattle.solver.proofs.Bytes.{plan_more, plan_byte}
@@ -13,13 +12,7 @@ use Rattle.solver.proofs.plans.write.Goals as goal
 pub loop-i-preserved : goal.loop-i-preserved
 loop-i-preserved c =
     let a = c.args in
-    let p = c.requires in
     let i = c.loop-i.i in
-    let X = true_atoms a.n (valued a.values) in
-    let h : i < length a.plan.now = omega (arith, p) in
-    let l : i < a.n = omega arith in (
-      omega arith,
-      c.loop-i.invariant.1,
-      simp length-set c.loop-i.invariant.2,
-      ap (λ (q : List ℕ). set q i c.bit.result) c.loop-i.invariant.3 ∙ plan_more X a.plan.now i h c.bit.result (c.bit.ensures ∙ plan_byte a.values a.n i l),
-    )
+    let h : i < length a.plan.now = omega arith in
+    ap (λ (q : List ℕ). set q i c.bit.result) c.loop-i.invariant
+    ∙ plan_more (true_atoms a.n (valued a.values)) a.plan.now i h c.bit.result (c.bit.ensures ∙ plan_byte a.values a.n i (omega arith))

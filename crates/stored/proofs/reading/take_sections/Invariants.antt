@@ -4,8 +4,8 @@ use lib.ListN.{length}
 use Rattle.stored.proofs.Scanning.{Taking}
 use Rattle.stored.proofs.reading.take_sections.Given as goal
 
-abbrev pub invariant-loop-point : goal.invariant-loop-point
-invariant-loop-point l = Taking l.bytes l.top l.at l.initial.words l.words l.to l.k l.point
+abbrev pub invariant-loop-what : goal.invariant-loop-what
+invariant-loop-what l = Taking l.bytes l.top l.at l.initial.words l.words l.to l.k l.point
 
-abbrev pub decreases-loop-point : goal.decreases-loop-point
-decreases-loop-point l = length l.bytes - l.to
+abbrev pub decreases-loop-what : goal.decreases-loop-what
+decreases-loop-what l = length l.bytes - l.to

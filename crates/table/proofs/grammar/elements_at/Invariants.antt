@@ -1,14 +1,12 @@
 -- `table::grammar::elements_at` meets its contract. The invariant of its loop: the pairs still to come, from `at` on, come to the same as all
--- pairs. The measure is their number. Assumes nothing.
+-- pairs. Assumes nothing.
 use mathlib.Core.Path.{◌≡◌}
+use Prim.Native.Nat.{◌-◌}
 use lib.ListN.{drop}
 use Rattle.table.specs.Roles.{run}
 use Rattle.table.specs.Grammar.{elements}
 use Rattle.table.specs.Places.{part_of}
 use Rattle.table.proofs.grammar.elements_at.Given as goal
 
-abbrev pub invariant-loop-left : goal.invariant-loop-left
-invariant-loop-left l = part_of (run (elements l.top l.previous l.left) l.at (drop l.at l.t)) ≡ part_of (run (elements l.top 0 l.n) l.i (drop l.i l.t))
-
-abbrev pub decreases-loop-left : goal.decreases-loop-left
-decreases-loop-left l = l.left
+abbrev pub invariant-loop : goal.invariant-loop
+invariant-loop l = part_of (run (elements l.top l.previous (l.n - l.counter)) l.at (drop l.at l.t)) ≡ part_of (run (elements l.top 0 l.n) l.i (drop l.i l.t))

@@ -1,20 +1,17 @@
--- `table::grammar::rules_at` meets its contract. The invariant of its loop: the rules still to come, from `at` on, come to the same as all rules.
--- The measure is their number. Assumes nothing.
-use native.Mathlib.Omega.{arith}
-use mathlib.Core.Path.{◌≡◌, sym, ◌∙◌}
+-- `table::grammar::rules_at` meets its contract: the rules one by one. Assumes nothing.
+use mathlib.Core.Path.{sym, ◌∙◌}
 use Rattle.table.proofs.Parts.{times_on, times_stop, times_none}
+use Rattle.table.proofs.Returned.{ends}
 use Rattle.table.proofs.grammar.rules_at.Goals as goal
 
-pub returns-in_default : goal.returns-in_default
-returns-in_default c =
-    let g = c.in_default.is in
-    g ∙ sym (times_stop _ _ _ c.loop-left.left _ c.loop-left-test.true (sym c.rule_at-p.ensures ∙ g)) ∙ c.loop-left.invariant
+pub returns-in_err-at : goal.returns-in_err-at
+returns-in_err-at c =
+    ends _ _ c.from_residual.ensures.1
+    ∙ sym (times_stop _ _ _ c.loop.counter _ _ c.loop-test.true (sym c.in_err-at.ensures))
+    ∙ c.loop.invariant
 
-pub loop-left-preserved : goal.loop-left-preserved
-loop-left-preserved c =
-    sym (times_on _ _ _ c.loop-left.left _ c.loop-left-test.true (sym c.rule_at-p.ensures ∙ c.in-Past.is)) ∙ c.loop-left.invariant
+pub loop-preserved : goal.loop-preserved
+loop-preserved c = sym (times_on _ _ _ c.loop.counter _ _ c.loop-test.true (sym c.in_ok-at.ensures)) ∙ c.loop.invariant
 
 pub returns : goal.returns
-returns c =
-    let n : c.loop-left.left ≡ 0 = omega arith in
-    sym (times_none _ _ _ c.loop-left.left n) ∙ c.loop-left.invariant
+returns c = sym (times_none _ _ _ c.loop.counter _ c.loop-test.false) ∙ c.loop.invariant

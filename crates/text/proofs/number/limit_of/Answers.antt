@@ -1,50 +1,20 @@
 -- `text::number::limit_of` meets its contract: by the first byte, the digits after it, and the range of their value. Assumes nothing.
-use mathlib.Core.Path.{◌≡◌, sym, ◌∙◌}
-use mathlib.Core.Bool.{true, false}
-use lib.Dec.{eqb}
-use lib.ListN.{get_or, drop}
-use Rattle.text.specs.declared.number.Digits.TheVariants.{Value}
-use Rattle.text.specs.Text.{digits}
-use Rattle.text.specs.Scan.{capped}
-use Rattle.text.proofs.Numbers.{limit_minus, limit_plain, capped_bad, neg_limit, neg_limit_bad, plain_limit, plain_limit_bad}
+use mathlib.Core.Path.{◌∙◌}
+use Rattle.text.proofs.Numbers.{limit_bad_minus, limit_is_minus, limit_bad_plain, limit_is_plain}
 use Rattle.text.proofs.number.limit_of.Goals as goal
 
-pub returns-in_default : goal.returns-in_default
-returns-in_default c =
-    let is-minus : eqb (get_or c.args.run.now 0 0) 45 ≡ true = sym c.minus.ensures ∙ c.if-minus.true in
-    let run = c.args.run.now in
-    rw (limit_minus run (is-minus), capped_bad (digits (drop 1 run)) (sym c.digits_from.ensures ∙ c.in_default.is))
+pub returns-in_err-digits_of : goal.returns-in_err-digits_of
+returns-in_err-digits_of c =
+    let d = c.in-Some.ensures.cases in
+    c.from_residual.ensures ∙ limit_bad_minus _ _ d.0 d.1 _ c.digits_of.ensures c.in_err-digits_of.was
 
-pub returns-then-size-eq0 : goal.returns-then-size-eq0
-returns-then-size-eq0 c =
-    let is-minus : eqb (get_or c.args.run.now 0 0) 45 ≡ true = sym c.minus.ensures ∙ c.if-minus.true in
-    let size_is : capped (digits (drop 1 c.args.run.now)) ≡ Value c.in-Value.size = sym c.digits_from.ensures ∙ c.in-Value.is in
-    let run = c.args.run.now in
-    rw (limit_minus run (is-minus), neg_limit _ (digits (drop 1 run)) (size_is) c.if-size-eq0.true)
+pub returns-in-Some : goal.returns-in-Some
+returns-in-Some c =
+    let d = c.in-Some.ensures.cases in
+    c.then_some.ensures ∙ limit_is_minus _ _ d.0 d.1 _ c.digits_of.ensures _ c.in_ok-digits_of.was
 
-pub returns-then-minus : goal.returns-then-minus
-returns-then-minus c =
-    let is-minus : eqb (get_or c.args.run.now 0 0) 45 ≡ true = sym c.minus.ensures ∙ c.if-minus.true in
-    let size_is : capped (digits (drop 1 c.args.run.now)) ≡ Value c.in-Value.size = sym c.digits_from.ensures ∙ c.in-Value.is in
-    let run = c.args.run.now in
-    rw (limit_minus run (is-minus), neg_limit_bad _ (digits (drop 1 run)) (size_is) c.if-size-eq0.false)
-
-pub returns-in_default-digits_from : goal.returns-in_default-digits_from
-returns-in_default-digits_from c =
-    let is_plain : eqb (get_or c.args.run.now 0 0) 45 ≡ false = sym c.minus.ensures ∙ c.if-minus.false in
-    let run = c.args.run.now in
-    rw (limit_plain run (is_plain), capped_bad (digits run) (sym c.digits_from-2.ensures ∙ c.in_default-digits_from.is))
-
-pub returns-then-value-gt4294967295 : goal.returns-then-value-gt4294967295
-returns-then-value-gt4294967295 c =
-    let is_plain : eqb (get_or c.args.run.now 0 0) 45 ≡ false = sym c.minus.ensures ∙ c.if-minus.false in
-    let value-is : capped (digits c.args.run.now) ≡ Value c.in-Value-digits_from.value = sym c.digits_from-2.ensures ∙ c.in-Value-digits_from.is in
-    let run = c.args.run.now in
-    rw (limit_plain run (is_plain), plain_limit_bad _ (digits run) (value-is) c.if-value-gt4294967295.true)
+pub returns-in_err-digits_of-2 : goal.returns-in_err-digits_of-2
+returns-in_err-digits_of-2 c = c.from_residual-in_err-digits_of-2.ensures ∙ limit_bad_plain _ c.in_default.ensures.cases _ c.digits_of-2.ensures c.in_err-digits_of-2.was
 
 pub returns : goal.returns
-returns c =
-    let is_plain : eqb (get_or c.args.run.now 0 0) 45 ≡ false = sym c.minus.ensures ∙ c.if-minus.false in
-    let value-is : capped (digits c.args.run.now) ≡ Value c.in-Value-digits_from.value = sym c.digits_from-2.ensures ∙ c.in-Value-digits_from.is in
-    let run = c.args.run.now in
-    rw (limit_plain run (is_plain), plain_limit _ (digits run) (value-is) c.if-value-gt4294967295.false)
+returns c = c.ok.ensures.value ∙ limit_is_plain _ c.in_default.ensures.cases _ c.digits_of-2.ensures _ c.in_ok-digits_of-2.was _ c.try_from.ensures

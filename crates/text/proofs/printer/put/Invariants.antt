@@ -1,11 +1,7 @@
 -- `text::printer::put` meets its contract. The invariant of its loop: the bytes passed have been put. Assumes nothing.
-use Prim.Native.Nat.{◌-◌, ◌≤◌}
-use lib.ListN.{length, take}
+use lib.ListN.{take}
 use Rattle.text.specs.Putting.{Put}
 use Rattle.text.proofs.printer.put.Given as goal
 
-abbrev pub invariant-loop-i : goal.invariant-loop-i
-invariant-loop-i l = (l.i ≤ length l.text) × Put l.initial.out l.at (take l.i l.text) l.to l.out
-
-abbrev pub decreases-loop-i : goal.decreases-loop-i
-decreases-loop-i l = length l.text - l.i
+abbrev pub invariant-loop-b : goal.invariant-loop-b
+invariant-loop-b l = Put l.initial.out l.at (take l.b-index l.text) l.to l.out

@@ -57,11 +57,11 @@ loop-at-preserved c =
     rw c.run_end-end.ensures (run_first _ c.loop-at.at c.loop-at.invariant.0 c.loop-at-test.true) in
     let bytes = c.args.bytes.now in
     let run = take (c.run_end-end.result - c.loop-at.at) (drop c.loop-at.at bytes) in
-    let z = c.in-Good.word in
+    let z = c.in-Some.word in
     let k : to_z w32 (of_z w32 z) ≡ z = search rules in
     let f = far in
     let t = c.loop-at.invariant.1 c.loop-at-test.true in
-    let g = listed_good run (runs (drop c.run_end-end.result bytes)) z (word_good (word run) z (sym c.word_of.ensures ∙ c.in-Good.is)) in (
+    let g = listed_good run (runs (drop c.run_end-end.result bytes)) z (word_good (word run) z (sym c.word_of.ensures ∙ c.in-Some.is)) in (
       rw c.run_start-at-in-loop-at.ensures (starts bytes c.run_end-end.result (inside)),
       λ h. let m = f h in omega arith,
       rw (k, c.run_start-at-in-loop-at.ensures, start_runs bytes c.run_end-end.result, add-one)

@@ -1,0 +1,37 @@
+-- `depend::cycles::head_reached` meets its contract: it asks the members of the list, each of which is in range. Assumes nothing.
+use borrow.Author.Rules.{rules}
+use mathlib.Core.Path.{◌∙◌}
+use Prim.Native.Nat.{ℕ}
+use lib.IntN.{ℤ, nat_abs}
+use Rattle.std.proofs.lemmas.Iterator.{YieldsList-from_slice}
+use Rattle.std.proofs.lemmas.Iterator.Adapters.{serves_from_places}
+use Rattle.std.proofs.lemmas.Iterator.Search.{any_from_yields_List}
+use mathlib.Core.Bool.{Bool}
+use mathlib.Core.List.{List, map}
+use Rattle.meaning.specs.Lists.{any}
+use Rattle.meaning.specs.Program.{Literal}
+use Rattle.layout.specs.Layout.{literal_of}
+use Rattle.depend.specs.Circles.{alike}
+use Rattle.depend.specs.Cycles.{returning}
+use Rattle.depend.proofs.Walk.{any_map, member_of}
+use Rattle.depend.proofs.cycles.head_reached.Goals as goal
+
+-- the test of a head atom
+abbrev passes : List ℕ → List ℤ → List ℤ → ℕ → Bool
+passes names t l = λ p. any (λ (u : Literal). returning (alike names) p u.aggregate.elements) (map (literal_of t) l)
+
+pub any-requires-clause-callable : goal.any-requires-clause-callable
+any-requires-clause-callable c =
+    let l = c.args.head.now in
+    serves_from_places (YieldsList-from_slice l cc) (λ x q r. search rules)
+    (λ x k h e.
+    let m = member_of 256 l c.requires.0 x.now k h e in
+    let low = m.0 in
+    let high = m.1 in
+    search rules)
+
+pub returns : goal.returns
+returns c =
+    let a = c.args in
+    any_from_yields_List (λ (w : ℤ). passes a.names.now a.t.now.words.now a.l.now (nat_abs w)) _ _ _ c.any.ensures.ran (YieldsList-from_slice a.head.now cc) (λ x b q k. search rules)
+    ∙ any_map (passes a.names.now a.t.now.words.now a.l.now) nat_abs a.head.now
