@@ -17,6 +17,17 @@ if command -v objdump >/dev/null && command -v python3 >/dev/null; then
 else
     echo "dock: not looked for probe loops, since there is no objdump or no python3"
 fi
+if command -v nm >/dev/null; then
+    for name in $(nm -u "$dock" "$desk" | awk '$1 == "U" { print $2 }' | sort -u); do
+        case $name in
+            memcpy | memset) ;;
+            *) echo "dock: the libraries need $name from outside" && exit 1 ;;
+        esac
+    done
+    echo "dock: the libraries need memcpy and memset, and nothing else"
+else
+    echo "dock: not looked for what the libraries need, since there is no nm"
+fi
 mkdir -p target/dock
 for program in runs pins stored relax; do
     "$tools/clang" -std=c11 -Wall -Wextra -Werror -O2 -ffreestanding -fPIE -I include -c tools/dock/$program.c -o target/dock/$program.o

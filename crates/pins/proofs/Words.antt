@@ -1,5 +1,6 @@
 -- How the memory of a session is read after a word was stored in it. Assumes nothing.
 --   number-*    a number kept at an index
+--   copied-*    the table's words copied to the front
 --   pins-*      the pins
 use mathlib.Core.Path.{◌≡◌, refl, sym, ap, ◌∙◌}
 use mathlib.Core.Logic.{◌≢◌, ◌⊎◌, inl, inr}
@@ -53,6 +54,18 @@ pub number_same : (s : List ℤ) (i n most : ℕ) → i < length s → n ≤ mos
 number_same s i n most h k =
     let e : nat_abs (get_or (set s i (pos n)) i (pos 0)) ≡ n = ap nat_abs (get_or-set_same s i (pos n) (pos 0) h) in
     number_is (set s i (pos n)) i most (omega arith) ∙ e
+
+-- ---- the words
+
+pub copied_more : (t s : List ℤ) (i : ℕ) → i < length t → i < length s → set (take i t ++ drop i s) i (get_or t i (pos 0)) ≡ take (i + 1) t ++ drop (i + 1) s
+copied_more t s i h k =
+    let l : length (take i t) ≡ i = length-take-le i t (omega arith) in
+    ap (λ (d : List ℤ). set (take i t ++ d) i (get_or t i (pos 0))) (drop-cons s i (pos 0) k)
+    ∙ ap (λ (j : ℕ). set (take i t ++ (get_or s i (pos 0) ∷ drop (suc i) s)) j (get_or t i (pos 0))) (sym l)
+    ∙ set-append_seam (take i t) (get_or s i (pos 0)) (drop (suc i) s) (get_or t i (pos 0))
+    ∙ sym (append_snoc (take i t) (get_or t i (pos 0)) (drop (suc i) s))
+    ∙ ap (λ (x : List ℤ). x ++ drop (suc i) s) (sym (take-suc t i (pos 0) h))
+    ∙ ap (λ (j : ℕ). take j t ++ drop j s) (sym (add-one i))
 
 -- ---- the table
 
@@ -129,6 +142,26 @@ any_more t (suc n) a =
     let e : a + 1 + n ≡ a + suc n = omega arith in
     ap (λ (b : Bool). t a || b) (any_more t n (a + 1) ∙ ap (λ (k : ℕ). t k || list_any t (range_with_len (a + 1) n)) e)
     ∙ swap (t a) (t (a + suc n)) (list_any t (range_with_len (a + 1) n))
+
+pub held_none : (s : List ℤ) (p : ℕ) → is_held p (pins_to s 0) ≡ false
+unfolding is_held pins_to
+held_none s p = refl
+
+pub held_here : (s : List ℤ) (p i : ℕ) → 0 < i → p ≡ atom_as (word_at s (i - 1)) → is_held p (pins_to s i) ≡ true
+unfolding is_held pins_to
+held_here s p zero h e = absurd (omega arith)
+held_here s p (suc i) h e =
+    let z : suc i - 1 ≡ i = omega arith in
+    let f : p ≡ atom_as (word_at s i) = e ∙ ap (λ (k : ℕ). atom_as (word_at s k)) z in
+    ap (λ (b : Bool). b || is_held p (pins_to s i)) (eq-eqb p (atom_as (word_at s i)) f)
+
+pub held_later : (s : List ℤ) (p i : ℕ) → 0 < i → (p ≡ atom_as (word_at s (i - 1)) → ⊥) → is_held p (pins_to s i) ≡ is_held p (pins_to s (i - 1))
+unfolding is_held pins_to
+held_later s p zero h d = absurd (omega arith)
+held_later s p (suc i) h d =
+    let z : suc i - 1 ≡ i = omega arith in
+    let f : p ≡ atom_as (word_at s i) → ⊥ = λ e. d (e ∙ ap (λ (k : ℕ). atom_as (word_at s k)) (sym z)) in
+    ap (λ (b : Bool). b || is_held p (pins_to s i)) (ne_eqb p (atom_as (word_at s i)) f) ∙ ap (λ (k : ℕ). is_held p (pins_to s k)) (sym z)
 
 pub held_any : (s : List ℤ) (p k : ℕ) → list_any (λ (i : ℕ). eqb p (atom_as (word_at s i))) (range_with_len 0 k) ≡ is_held p (pins_to s k)
 unfolding is_held pins_to

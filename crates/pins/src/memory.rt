@@ -44,6 +44,17 @@ fn put(s: &mut [i32], i: usize, n: usize)
     s[i] = n as i32;
 }
 
+// The table's words, kept from index 0 on.
+// Stays: the library's `copy_from_slice` needs `memmove`, and the libraries for C need no more than `memcpy` and `memset` from outside.
+fn copy(words: &[i32], s: &mut [i32])
+    requires { length words.now ≤ length s.old }
+    ensures { s.new ≡ words.now ++ drop (length words.now) s.old }
+{
+    for i in 0..words.len() {
+        s[i] = words[i];
+    }
+}
+
 // A mode as it is kept.
 fn mode(cycles: bool) -> usize
     ensures { result ≡ mode_word cycles }
@@ -65,7 +76,7 @@ pub fn fill(words: &[i32], cycles: bool, s: &mut [i32])
     ensures { s.new ≡ opened_with cycles words.now s.old }
 {
     let count = words.len();
-    s[..count].copy_from_slice(words);
+    copy(words, s);
     put(s, COUNT, count);
     put(s, HELD, 0);
     put(s, MODE, mode(cycles));
@@ -100,12 +111,17 @@ pub fn value_at(s: &[i32], i: usize) -> bool
     !(Table::ATOMS < m)
 }
 
-// Whether an atom is pinned.
+// Whether an atom is pinned; the last pins are asked first.
 pub fn is_held(s: &[i32], held: usize, p: usize) -> bool
     requires { (held ≤ 64) × (length s.now ≡ 16451) }
     ensures { result ≡ is_held p (pins_to s.now held) }
 {
-    (0..held).any(|i| p == atom_at(s, i))
+    for i in (0..held).rev() {
+        if p == atom_at(s, i) {
+            return true;
+        }
+    }
+    false
 }
 
 // The word of a pin.
