@@ -21,10 +21,14 @@ pub fn read_full(input: &mut impl Read, buffer: &mut [u8]) -> io::Result<usize>
     Ok(done)
 }
 
-// The next bytes; past the end of the input they are as given.
+// The next bytes, each read on its own; one for which a read finds the end of the input is as given.
 pub fn next_bytes<const N: usize>(input: &mut impl Read, given: [u8; N]) -> io::Result<[u8; N]> {
     let mut bytes = given;
-    read_full(input, &mut bytes)?;
+    for b in bytes.iter_mut() {
+        let mut one = [*b];
+        read_full(input, &mut one)?;
+        *b = one[0];
+    }
     Ok(bytes)
 }
 

@@ -22,12 +22,20 @@ pub fn print_line(rt: &impl Print, solved: Result<Solved, Refusal>, plan: &[u8])
     rt.write_all(&out[..wrote])
 }
 
+// A space and the number, one write each: what a write that fails leaves out begins with it.
+fn print_number(rt: &impl Print, n: u64) -> io::Result<()> {
+    rt.write_all(b" ")?;
+    print!(rt; "{n}")
+}
+
 // The line `why`: an atom, its round and its rule for each atom that has a round or a rule.
 pub fn print_whys(rt: &impl Print, whys: &[Why; 256]) -> io::Result<()> {
     rt.write_all(b"why")?;
     for (i, why) in whys.iter().enumerate() {
         if why.round != 0 || why.rule != 0 {
-            print!(rt; " {} {} {}", i + 1, why.round, why.rule)?;
+            print_number(rt, i as u64 + 1)?;
+            print_number(rt, u64::from(why.round))?;
+            print_number(rt, u64::from(why.rule))?;
         }
     }
     rt.write_all(b"\n")
@@ -40,9 +48,17 @@ fn print_written(
     buffer: &[u8],
 ) -> io::Result<()> {
     match written {
-        Ok(n) => println!(rt; "wrote {n}")?,
-        Err(refusal) => println!(rt; "refused {} {}", refusal.number(), refusal.place())?,
+        Ok(n) => {
+            rt.write_all(b"wrote ")?;
+            print!(rt; "{n}")?;
+        }
+        Err(refusal) => {
+            rt.write_all(b"refused ")?;
+            print!(rt; "{}", refusal.number())?;
+            print_number(rt, refusal.place() as u64)?;
+        }
     }
+    rt.write_all(b"\n")?;
     rt.write_all(buffer)?;
     rt.write_all(b"\n")
 }

@@ -4,7 +4,7 @@ use std::io;
 use std::io::Read;
 
 // The next byte, 0 at the end of the input.
-fn byte(input: &mut impl Read) -> io::Result<u8> {
+pub fn byte(input: &mut impl Read) -> io::Result<u8> {
     let [b] = next_bytes(input, [0])?;
     Ok(b)
 }

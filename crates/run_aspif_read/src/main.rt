@@ -4,7 +4,6 @@
 
 mod input;
 
-use framed::read_full;
 use std::io;
 use std::io::Read;
 
@@ -16,19 +15,44 @@ const MOST_WORDS: usize = 16384;
 // What the buffer's words are before.
 const BEFORE: i32 = -7;
 
+// A space and the number, one write each: what a write that fails leaves out begins with it.
+fn print_number(rt: &impl Print, n: u64) -> io::Result<()> {
+    rt.write_all(b" ")?;
+    print!(rt; "{n}")
+}
+
+fn print_word(rt: &impl Print, w: i32) -> io::Result<()> {
+    rt.write_all(b" ")?;
+    if w < 0 {
+        rt.write_all(b"-")?;
+    }
+    print!(rt; "{}", w.unsigned_abs())
+}
+
 // A case's line.
 fn print_case(rt: &impl Print, text: &[u8], words: &mut [i32]) -> io::Result<()> {
     match aspif_read::read(text, words) {
         Ok(n) => {
-            print!(rt; "wrote {n}:")?;
+            rt.write_all(b"wrote")?;
+            print_number(rt, n as u64)?;
+            rt.write_all(b":")?;
             for w in words.iter().take(n) {
-                print!(rt; " {w}")?;
+                print_word(rt, *w)?;
             }
         }
-        Err(refusal) => print!(rt; "refused {} {}", refusal.number(), refusal.place())?,
+        Err(refusal) => {
+            rt.write_all(b"refused")?;
+            print_number(rt, u64::from(refusal.number()))?;
+            print_number(rt, refusal.place() as u64)?;
+        }
     }
-    let kept = words.iter().filter(|w| **w == BEFORE).count();
-    println!(rt; " / {kept}")
+    let mut kept: u64 = 0;
+    for w in words.iter() {
+        kept = kept.wrapping_add(u64::from(*w == BEFORE));
+    }
+    rt.write_all(b" /")?;
+    print_number(rt, kept)?;
+    rt.write_all(b"\n")
 }
 
 // Reads a case and prints its line; whether there was one.
@@ -40,7 +64,9 @@ fn run_case(rt: &impl Print, input: &mut impl Read) -> io::Result<bool> {
     }
     let mut text = [0u8; MOST_BYTES];
     let mut words = [BEFORE; MOST_WORDS];
-    read_full(input, &mut text[..length])?;
+    for b in text[..length].iter_mut() {
+        *b = input::byte(input)?;
+    }
     if room <= MOST_WORDS {
         print_case(rt, &text[..length], &mut words[..room])?;
     }

@@ -11,15 +11,23 @@ use results::{Ask, Refusal, Solved};
 use std::io;
 use std::io::Read;
 
+// A space and the number, one write each: what a write that fails leaves out begins with it.
+fn print_number(rt: &impl Print, n: u64) -> io::Result<()> {
+    rt.write_all(b" ")?;
+    print!(rt; "{n}")
+}
+
 fn print_refusal(rt: &impl Print, refusal: Refusal) -> io::Result<()> {
-    print!(rt; "refused {} {}", refusal.number(), refusal.place())
+    rt.write_all(b"refused")?;
+    print_number(rt, u64::from(refusal.number()))?;
+    print_number(rt, refusal.place() as u64)
 }
 
 // The number of each byte that is 1, from 1.
 fn print_atoms(rt: &impl Print, plan: &[u8]) -> io::Result<()> {
     for (i, b) in plan.iter().enumerate() {
         if *b == 1 {
-            print!(rt; " {}", i + 1)?;
+            print_number(rt, i as u64 + 1)?;
         }
     }
     Ok(())
@@ -79,7 +87,9 @@ fn print_all(rt: &impl Print, table: &[i32], plan: &mut [u8], atoms: usize) -> i
             sum = mixed(sum, code);
         }
     }
-    print!(rt; " / {found} {sum}")
+    rt.write_all(b" /")?;
+    print_number(rt, found)?;
+    print_number(rt, sum)
 }
 
 // The part of the line on all plans, for accepted tables of at most 6 atoms.
@@ -103,7 +113,9 @@ fn print_line(rt: &impl Print, table: &[i32], plan: &mut [u8]) -> io::Result<()>
     };
     let solution = solver::solve(table, ask, plan);
     print_solved(rt, solution.solved, plan)?;
-    print!(rt; " / {} / ", checksum(plan))?;
+    rt.write_all(b" /")?;
+    print_number(rt, checksum(plan))?;
+    rt.write_all(b" / ")?;
     print_checked(rt, checked)?;
     if checked.is_ok() {
         print_plans(rt, table, plan)?;
