@@ -17,6 +17,7 @@ use Rattle.aspif_scan.specs.declared.machine.Stage.TheVariants.{Rule, Disjunctio
 use Rattle.aspif_scan.specs.declared.machine.State.{State}
 use Rattle.aspif_scan.specs.Machine.{higher_of, start_of, step_at, step_of, read_by}
 use Rattle.aspif_scan.specs.Marks.{slot_of, literal_row, add_of, mark_at, mark_of, marks_by}
+use Rattle.aspif_scan.specs.Number.{nought}
 use Rattle.aspif_scan.specs.Scan.{numbers_in}
 use Rattle.aspif_read.specs.Survey.{no_marks, state_of, marks_of}
 use Rattle.aspif_read.specs.Writing.{Capped}
@@ -55,7 +56,7 @@ step_low Outside s n h = record { bound = h.bound; top = h.top }
 read_low : (s : State) (ns : List (Option Number)) → Low s → Low (read_by s ns)
 unfolding read_by step_of
 read_low s [] h = h
-read_low s (None ∷ ns) h = read_low (step_of s None) ns (record { bound = h.bound; top = h.top })
+read_low s (None ∷ ns) h = let l = step_low s.stage s nought h in read_low (step_of s None) ns (record { bound = l.bound; top = l.top })
 read_low s (Some n ∷ ns) h = read_low (step_of s (Some n)) ns (step_low s.stage s n h)
 
 line_low : (line : List ℕ) → Low (state_of line)
@@ -100,7 +101,7 @@ mark_capped Outside p n m h = h
 by_capped : (s : State) (ns : List (Option Number)) (m : List ℕ) → Capped m → Capped (marks_by s ns m)
 unfolding marks_by mark_of
 by_capped s [] m h = h
-by_capped s (None ∷ ns) m h = by_capped (step_of s None) ns m h
+by_capped s (None ∷ ns) m h = by_capped (step_of s None) ns (mark_of s None m) (mark_capped s.stage s.atom nought m h)
 by_capped s (Some n ∷ ns) m h = by_capped (step_of s (Some n)) ns (mark_of s (Some n) m) (mark_capped s.stage s.atom n m h)
 
 pub none_at : (n i : ℕ) → ◌≡◌ {A = ℕ} (get_or (replicate n 0) i 0) 0

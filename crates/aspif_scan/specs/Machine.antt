@@ -1,10 +1,11 @@
 -- A rule statement number by number, as the code reads it. Definitions only, for the contracts of inner functions; `proofs/` ties them to `Lines`.
---   step_of     what one field more does to what is expected: a number, or none
+--   step_of     what one field more does to what is expected: a number, or none, which counts as 0 and is outside the subset
 --   read_by     the state after all fields
 -- Assumes nothing.
 use Rattle.std.specs.Prelude.{Bool, true, ◌&&◌, not, List, [], ◌∷◌, ℕ, ◌-◌, min, eqb, leb, ltb, Option, Some, None}
 use Rattle.text.specs.Text.{pick}
 use Rattle.aspif_scan.specs.declared.number.Number.{Number}
+use Rattle.aspif_scan.specs.Number.{nought}
 use Rattle.aspif_scan.specs.declared.machine.Stage.{Stage}
 use Rattle.aspif_scan.specs.declared.machine.Stage.TheVariants.{Rule, Disjunction, HeadCount, Head, Body, LiteralCount, Literal, Bound, PairCount, Pair, Weight, NormalEnd, WeightEnd, Outside}
 use Rattle.aspif_scan.specs.declared.machine.State.{State}
@@ -96,7 +97,7 @@ step_at WeightEnd s n = outside_of s
 step_at Outside s n = outside_of s
 
 unfoldable pub step_of : State → Option Number → State
-step_of s None = outside_of s
+step_of s None = outside_of (step_at s.stage s nought)
 step_of s (Some n) = step_at s.stage s n
 
 -- the state after all fields

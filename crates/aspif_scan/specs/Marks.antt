@@ -10,6 +10,7 @@ use Rattle.meaning.specs.Lists.{cons_if}
 use Rattle.meaning.specs.Program.{Element}
 use Rattle.text.specs.Text.{pick}
 use Rattle.aspif_scan.specs.declared.number.Number.{Number}
+use Rattle.aspif_scan.specs.Number.{nought}
 use Rattle.aspif_scan.specs.declared.machine.Stage.{Stage}
 use Rattle.aspif_scan.specs.declared.machine.Stage.TheVariants.{Rule, Disjunction, HeadCount, Head, Body, LiteralCount, Literal, Bound, PairCount, Pair, Weight, NormalEnd, WeightEnd, Outside}
 use Rattle.aspif_scan.specs.declared.machine.State.{State}
@@ -43,7 +44,7 @@ mark_at WeightEnd p n m = m
 mark_at Outside p n m = m
 
 unfoldable pub mark_of : State → Option Number → List ℕ → List ℕ
-mark_of s None m = m
+mark_of s None m = mark_at s.stage s.atom nought m
 mark_of s (Some n) m = mark_at s.stage s.atom n m
 
 -- the marks after all fields

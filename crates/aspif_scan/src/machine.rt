@@ -2,9 +2,9 @@
 // after its count; then 0 and the literals after their count, or 1, the bound and the pairs after their count". Meaning: `specs/Machine.antt`.
 ghost use Rattle.std.specs.Prelude.{◌≡◌, not};
 ghost use Rattle.text.specs.Text.{pick};
-ghost use Rattle.aspif_scan.specs.Machine.{plainly, higher_of, start_of, exactly_of, counted_of, body_of, listed_of, bound_of, weight_of, outside_of, step_of};
+ghost use Rattle.aspif_scan.specs.Machine.{plainly, higher_of, start_of, exactly_of, counted_of, body_of, listed_of, bound_of, weight_of, outside_of, step_at, step_of};
 
-use crate::number::Number;
+use crate::number::{Number, nought};
 
 // What is expected next; or that the statement is whole; or that the line is outside the subset.
 #[derive(Clone, Copy)]
@@ -159,14 +159,10 @@ fn outside(s: State) -> State
     }
 }
 
-// One number more, or a field that is none.
-#[tactic(auto, unfolding(crate::specs::Machine::step_of))]
-pub fn step(s: State, field: Option<Number>) -> State
-    ensures { result ≡ step_of s field }
+// One number more.
+fn number_step(s: State, n: Number) -> State
+    ensures { result ≡ step_at s.stage s n }
 {
-    let Some(n) = field else {
-        return outside(s);
-    };
     match s.stage {
         Stage::Rule => exactly(s, n, 1, Stage::Disjunction),
         Stage::Disjunction => exactly(s, n, 0, Stage::HeadCount),
@@ -183,4 +179,15 @@ pub fn step(s: State, field: Option<Number>) -> State
         Stage::WeightEnd => outside(s),
         Stage::Outside => outside(s),
     }
+}
+
+// One number more, or a field that is none: it counts as 0, and the line is outside the subset.
+#[tactic(auto, unfolding(crate::specs::Machine::step_of))]
+pub fn step(s: State, field: Option<Number>) -> State
+    ensures { result ≡ step_of s field }
+{
+    let Some(n) = field else {
+        return outside(number_step(s, nought()));
+    };
+    number_step(s, n)
 }

@@ -1,10 +1,10 @@
 // What a statement holds, as five rows of a number for each atom 1 to 256: how often it is in the head, positive in the body, negated there, in
 // the weight body, and the weights that it has there, added. A number is held at 65,536, which is no weight of 01's. Meaning: `specs/Marks.antt`.
 ghost use Rattle.std.specs.Prelude.{◌≡◌, ◌+◌, ◌*◌, ◌<◌, ◌≤◌, min, length, IfSome};
-ghost use Rattle.aspif_scan.specs.Marks.{slot_of, literal_row, add_of, mark_of, row_from, light_from};
+ghost use Rattle.aspif_scan.specs.Marks.{slot_of, literal_row, add_of, mark_at, mark_of, row_from, light_from};
 
 use crate::machine::{Stage, State};
-use crate::number::Number;
+use crate::number::{Number, nought};
 
 // The sum of two numbers, held at 65,536.
 fn sum(x: u32, more: u64) -> u32
@@ -50,14 +50,10 @@ fn add(marks: &mut [u32; 1280], row: usize, p: u64, more: u64)
     marks[i] = sum(marks[i], more);
 }
 
-// What the next field of a statement adds: nothing, where it is no number.
-#[tactic(auto, unfolding(crate::specs::Marks::mark_of))]
-pub fn mark(s: State, field: Option<Number>, marks: &mut [u32; 1280])
-    ensures { marks.new ≡ mark_of s field marks.old }
+// What a number of a statement adds.
+fn mark_number(s: State, n: Number, marks: &mut [u32; 1280])
+    ensures { marks.new ≡ mark_at s.stage s.atom n marks.old }
 {
-    let Some(n) = field else {
-        return;
-    };
     match s.stage {
         Stage::Rule => {}
         Stage::Disjunction => {}
@@ -74,6 +70,17 @@ pub fn mark(s: State, field: Option<Number>, marks: &mut [u32; 1280])
         Stage::WeightEnd => {}
         Stage::Outside => {}
     }
+}
+
+// What the next field of a statement adds: what 0 adds, where it is no number.
+#[tactic(auto, unfolding(crate::specs::Marks::mark_of))]
+pub fn mark(s: State, field: Option<Number>, marks: &mut [u32; 1280])
+    ensures { marks.new ≡ mark_of s field marks.old }
+{
+    let Some(n) = field else {
+        return mark_number(s, nought(), marks);
+    };
+    mark_number(s, n, marks);
 }
 
 // How many atoms a row has.

@@ -2,7 +2,7 @@
 // no atom, weight or bound in range and no count of fields of a line is that large.
 ghost use Rattle.std.specs.Prelude.{◌≡◌};
 ghost use Rattle.text.specs.Text as T;
-ghost use Rattle.aspif_scan.specs.Number.{number_in};
+ghost use Rattle.aspif_scan.specs.Number.{nought, number_in};
 
 use text::number::digits_of;
 
@@ -11,6 +11,16 @@ use text::number::digits_of;
 pub struct Number {
     pub minus: bool,
     pub size: u64,
+}
+
+// What a field counts as that is no number.
+pub fn nought() -> Number
+    ensures { result ≡ nought }
+{
+    Number {
+        minus: false,
+        size: 0,
+    }
 }
 
 // The number of a field, where it is one; `-0` is 0.
