@@ -121,7 +121,7 @@ pub unfailed_value : (p q f : Bool) → decide (p && (q && not f)) (not q) ≡ m
 unfailed_value true q f = refl
 unfailed_value false q f = refl
 
-failed_false : (m : Marks) → m.failed ≡ true → False ≡ marks_value true m
+pub failed_false : (m : Marks) → m.failed ≡ true → False ≡ marks_value true m
 failed_false m h = rw h (at m.passed)
   where
     at : (p : Bool) → False ≡ decide ((p && false) && (m.passable && not m.failable)) true

@@ -6,6 +6,7 @@ mod Walks
 mod Pairs
 mod Amounts
 mod Bytes
+mod Backwards
 mod Runs
 mod Marked
 mod Trues

@@ -103,16 +103,18 @@ pub fn totals_value(w: &[i32], count: bool, c: Comparison, k: usize, values: &[u
     between(passes(c, k, t.low), passes(c, k, t.high))
 }
 
-// The value of "some value passes": true as soon as a true element's value passes. The value is looked at
+// The value of "some value passes", from the last pair to the first: true as soon as a true element's value passes. The value is looked at
 // before the atom, because it is the same at each call.
 pub fn some_value(w: &[i32], c: Comparison, k: usize, values: &[u8; 256]) -> Value
     requires { Paired w.now }
     ensures { result ≡ marks_value false (marks_of c k (valued values.now) (pairs w.now)) }
 {
+    let pairs = w.as_chunks::<2>().0;
     let mut passable = false;
-    for [value, atom] in w.as_chunks::<2>().0 {
-        if passes(c, k, words::plain(*value)) {
-            let b = crate::byte(*atom, values);
+    for i in (0..pairs.len()).rev() {
+        let [value, atom] = pairs[i];
+        if passes(c, k, words::plain(value)) {
+            let b = crate::byte(atom, values);
             if b == 1 {
                 return Value::True;
             }
@@ -122,17 +124,19 @@ pub fn some_value(w: &[i32], c: Comparison, k: usize, values: &[u8; 256]) -> Val
     between(false, passable)
 }
 
-// The value of "each value passes, and there is one": false as soon as a true element's value fails.
+// The value of "each value passes, and there is one", from the last pair to the first: false as soon as a true element's value fails.
 pub fn each_value(w: &[i32], c: Comparison, k: usize, values: &[u8; 256]) -> Value
     requires { Paired w.now }
     ensures { result ≡ marks_value true (marks_of c k (valued values.now) (pairs w.now)) }
 {
+    let pairs = w.as_chunks::<2>().0;
     let mut passed = false;
     let mut passable = false;
     let mut failable = false;
-    for [value, atom] in w.as_chunks::<2>().0 {
-        let b = crate::byte(*atom, values);
-        if passes(c, k, words::plain(*value)) {
+    for i in (0..pairs.len()).rev() {
+        let [value, atom] = pairs[i];
+        let b = crate::byte(atom, values);
+        if passes(c, k, words::plain(value)) {
             passed |= b == 1;
             passable |= b < 2;
         } else {

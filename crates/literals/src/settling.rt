@@ -10,7 +10,7 @@ ghost use Rattle.valuing.specs.Values.{asks_each};
 ghost use Rattle.valuing.specs.Settling.{settling_of};
 ghost use Rattle.valuing.specs.Reasons.{reasons_at};
 ghost use Rattle.literals.specs.Elements.{Paired};
-ghost use Rattle.literals.specs.Settled.{join_if, alike_by, whole_of, bound_by, told_by, run_of, adds_of, passing_of, alone_by, alone_at, single_of};
+ghost use Rattle.literals.specs.Settled.{join_if, of_sign, alike_by, whole_of, bound_by, told_by, run_of, adds_of, passing_of, alone_by, alone_at, single_of};
 
 use crate::aggregates;
 use meaning::{Comparison, Function};
@@ -33,6 +33,13 @@ pub fn joined(on: bool, p: usize, reasons: &[[u64; 4]; 256], more: [u64; 4]) -> 
     } else {
         more
     }
+}
+
+// Whether the byte of a value says true (or false).
+pub fn of_sign(sign: bool, b: u8) -> bool
+    ensures { result ≡ of_sign sign (cell_by b 0) }
+{
+    if sign { b == 1 } else { 1 < b }
 }
 
 // ---- count and sum
@@ -92,7 +99,7 @@ pub fn shortest(
                 reason: acc,
             };
         }
-        let on = crate::affirms(sign, crate::byte(*atom, values));
+        let on = of_sign(sign, crate::byte(*atom, values));
         let next = joined(on, words::size(*atom), reasons, acc);
         acc = next;
         x += aggregates::part(on, aggregates::weight(count, words::size(*value)));

@@ -4,14 +4,12 @@ use mathlib.Core.Path.{ap₂}
 use Rattle.meaning.specs.Program.{Element}
 use Rattle.levels.specs.Levels.{Levels}
 use Rattle.levels.specs.View.{row, rows}
-use Rattle.interpretation.specs.State.{Cell}
-use Rattle.interpretation.specs.View.{valued, cell_by, cell_value}
-use Rattle.valuing.specs.Values.{says_true, signed}
+use Rattle.interpretation.specs.View.{valued, cell_by}
 use Rattle.layout.specs.Layout.{pairs}
 use Rattle.literals.specs.Elements.{weight_of, part_of}
-use Rattle.literals.specs.Settled.{join_if, whole_of, Told, run_of}
+use Rattle.literals.specs.Settled.{join_if, of_sign, whole_of, Told, run_of}
 use Rattle.literals.proofs.Pairs.{pair_on, value_read, atom_read, atom_asked, pairs_read, pairs_end}
-use Rattle.literals.proofs.Bytes.{part_most, affirms_sign}
+use Rattle.literals.proofs.Bytes.{part_most}
 use Rattle.literals.proofs.Runs.{run_on, run_here}
 use Rattle.literals.proofs.settling.shortest.Goals as goal
 
@@ -38,7 +36,7 @@ overflow_add-x c =
     let word : c.size-in-loop-value.result ≡ nat_abs (get_or (get_or front i []) 0 (pos 0)) = search rules in
     let value : c.size-in-loop-value.result ≡ (pair_on w i).value = word ∙ ap nat_abs (value_read w front q.ensures.front q.ensures.front_len i c.loop-value-test.true) in
     let e = ap (whole_of c.args.count) (pairs_read w front q.ensures.front q.ensures.front_len i c.loop-value-test.true) in
-    let m : c.part-x.result ≤ c.weight.result = rw c.part-x.ensures (part_most c.affirms-on.result c.weight.result) in
+    let m : c.part-x.result ≤ c.weight.result = rw c.part-x.ensures (part_most c.of_sign-on.result c.weight.result) in
     let v = c.weight.ensures ∙ ap (weight_of c.args.count) value in
     omega (arith, e, m, v)
 
@@ -76,12 +74,12 @@ loop-value-preserved c =
     let atom = second ∙ ap nat_abs (atom_read w front q.ensures.front q.ensures.front_len i c.loop-value-test.true) in
     let byte : cell_by c.byte.result 0 ≡ valued a.values.now (nat_abs (get_or (get_or front i []) 1 (pos 0))) = search rules in
     let cell = byte ∙ ap (λ (p : ℕ). X p) (sym second ∙ atom) in
-    let on = c.affirms-on.ensures ∙ ap (λ (d : Cell). says_true (signed a.sign (cell_value d))) cell ∙ affirms_sign a.sign (X e.atom) in
+    let on = c.of_sign-on.ensures ∙ ap (of_sign a.sign) cell in
     let weighed = c.weight.ensures ∙ ap (weight_of a.count) value in
     let xs = ap (λ (y : ℕ). x + y) (c.part-x.ensures ∙ ap₂ part_of on weighed) in
     let joins = c.joined-next.ensures ∙ ap₂ (λ (o : Bool) (p : ℕ). join_if o (R p) A) on atom in
     let sums = ap (whole_of a.count) one in
-    let m : c.part-x.result ≤ c.weight.result = rw c.part-x.ensures (part_most c.affirms-on.result c.weight.result) in (
+    let m : c.part-x.result ≤ c.weight.result = rw c.part-x.ensures (part_most c.of_sign-on.result c.weight.result) in (
       omega (arith, sums, m, weighed),
       ap₂ (λ (y : ℕ) (C : Levels). run_of a.sign a.count a.c a.k a.high X R (pairs (drop (2 * (i + 1)) w)) y C) xs joins
           ∙ sym (ap (λ (es : List Element). run_of a.sign a.count a.c a.k a.high X R es x A) one
