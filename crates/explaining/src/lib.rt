@@ -112,7 +112,7 @@ pub fn mark(t: &Accepted, values: &[u8; 256], list: &mut Candidates) -> [Why; 25
     ensures { whys_in result ≡ marks_after (program_in t.now) (true_atoms t.now.places.atoms (valued values.now)) t.now.places.atoms }
 {
     collect(t, values, list);
-    let mut marks = nothing();
+    let mut marks = [Why { round: 0, rule: 0 }; 256];
     for k in 0..t.places.atoms {
         let round = k as u16 + 1;
         if !walk(t.words, list, t.places.rules, round, &mut marks) {

@@ -179,5 +179,6 @@ fn check(
     }
     let values = plans::values_of(plan, t.places.atoms);
     let model = foundation::is_model(t, &values);
-    Ok(model && passes(t, cycles, lists, &values, candidates))
+    let approved = model && passes(t, cycles, lists, &values, candidates);
+    Ok(approved)
 }

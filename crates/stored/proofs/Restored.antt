@@ -2,13 +2,16 @@
 use mathlib.Core.Path.{◌≡◌, refl, sym, ap, ◌∙◌, subst}
 use mathlib.Core.Bool.{Bool, true, false}
 use mathlib.Core.List.{List, ◌++◌}
+use mathlib.Core.Logic.{◌⊎◌, inl, inr}
 use Prim.Native.Nat.{ℕ, ◌+◌, ◌≤◌, ◌<◌}
 use native.Mathlib.Omega.{arith}
 use lib.Dec.{T}
 use lib.IntN.{ℤ}
 use lib.ListN.{length, take, drop}
 use lib.Seq.{sets, sets-eq, length-sets, take-append_seam}
-use Rattle.std.specs.Prelude.{Result, Ok, Err}
+use Rattle.std.specs.Prelude.{Some, None, Result, Ok, Err}
+use Rattle.std.specs.Option.{option_or}
+use Rattle.std.specs.Result.{result_err}
 use Rattle.meaning.proofs.Tools.{clash}
 use Rattle.results.specs.Results.{number_of, place_of}
 use Rattle.results.specs.declared.Refusal.{Refusal}
@@ -26,7 +29,7 @@ use Rattle.judging.proofs.Refusals.{refused_not_accepted, refused_unique, same_c
 use Rattle.stored.specs.Bytes.{Bytes, named, stored, Reading, refused_for, holds, read_bytes}
 use Rattle.stored.specs.Promises.{plainly}
 use Rattle.stored.specs.Restoring.{RestoreRefused, room, bytes, words, names, Restores}
-use Rattle.stored.specs.Taking.{Taken, Takes}
+use Rattle.stored.specs.Taking.{Taken, Takes, names_fault}
 use Rattle.stored.proofs.Exact.{exact, held_encodes, refused≢holds, same_words, same_names}
 use Rattle.stored.proofs.NameLaws.{unnamed_empty}
 use Rattle.stored.proofs.Storing.{wrote≢refused, same_refusal, same_length}
@@ -154,6 +157,18 @@ took_refused bs old new f r h e = at (read_bytes bs) refl h
 pub took_again : (bs : List ℕ) (old new : List ℤ) (r : Taken) (ws : List ℤ) (xs : List (List ℕ)) → read_bytes bs ≡ holds ws xs → Takes (read_bytes bs) old new r → new ≡ sets old 0 ws
 took_again bs old new r ws xs q h = (subst (λ (s : Reading). Takes s old new r) q h).1
 
+-- of the judge's fault and the names' the first
+pub earlier_refused : (x : Result Table Refusal) (filled : Bool) (f : Refusal) → option_or (result_err x) (names_fault filled) ≡ Some f
+    → (x ≡ Err f) ⊎ ((tb : Table) × (x ≡ Ok tb) × (filled ≡ true) × (f ≡ NamesLost))
+earlier_refused (Err g) filled f h = inl cc
+earlier_refused (Ok tb) true f h = inr (tb, refl, refl, cc)
+earlier_refused (Ok tb) false f h = cc
+
+pub earlier_none : (x : Result Table Refusal) (filled : Bool) → option_or (result_err x) (names_fault filled) ≡ None → (tb : Table) × (x ≡ Ok tb) × (filled ≡ false)
+earlier_none (Err g) filled h = cc
+earlier_none (Ok tb) true h = cc
+earlier_none (Ok tb) false h = (tb, refl, refl)
+
 -- ---- the words where they are judged
 
 module _ (bs : List ℕ) (n : ℕ) (filled : Bool) (memory after : List ℤ) (t : Took bs n filled memory after) where
@@ -186,3 +201,14 @@ module _ (bs : List ℕ) (n : ℕ) (filled : Bool) (memory after : List ℤ) (t 
       restores_good tb k y new r h =
           let a = judged_taken t.ws Nothing x tb j k in
           restores_whole bs old new (Ok n) b t.ws t.xs a.0 wide t.reads a.1 (sym t.fills ∙ y) (ap Ok t.counts) (took_again bs old new r t.ws t.xs t.reads h)
+
+      -- 8 or 9 of the words, and only then 24
+      pub restores_faulty : (f : Refusal) → option_or (result_err x) (names_fault filled) ≡ Some f → Restores bs old old (Err f)
+      restores_faulty f h = at (earlier_refused x filled f h)
+        where
+          at : (x ≡ Err f) ⊎ ((tb : Table) × (x ≡ Ok tb) × (filled ≡ true) × (f ≡ NamesLost)) → Restores bs old old (Err f)
+          at (inl k) = restores_judged f k
+          at (inr (tb, k, y, e)) = subst (λ (g : Refusal). Restores bs old old (Err g)) (sym e) (restores_named tb k y)
+
+      pub restores_whole_table : option_or (result_err x) (names_fault filled) ≡ None → (new : List ℤ) (r : Taken) → Takes (read_bytes bs) old new r → Restores bs old new (Ok n)
+      restores_whole_table h new r k = let a = earlier_none x filled h in restores_good a.0 a.1 a.2 new r k

@@ -1,13 +1,14 @@
 -- The way back as the code goes it: what its functions return of names, of the words after them, and of the whole. Definitions only; `proofs/` ties them to
 -- `read_bytes`.
 --   names_told         whether a name is not empty, and the next place
+--   names_fault        "24 going back while some name isn't empty"
 --   Takes             what taking the words of all bytes leaves in a buffer, and returns
 -- Assumes nothing.
-use Rattle.std.specs.Prelude.{◌≡◌, Bool, List, [], ◌∷◌, ℕ, suc, ltb, ℤ, pos, length, set, Result, Ok, Err}
+use Rattle.std.specs.Prelude.{◌≡◌, Bool, true, false, List, [], ◌∷◌, ℕ, suc, ltb, ℤ, pos, length, set, Option, Some, None, Result, Ok, Err}
 use Rattle.std.proofs.lemmas.List.Edits.{sets}
 use Rattle.meaning.specs.Cond.{if_lt}
 use Rattle.results.specs.declared.Refusal.{Refusal}
-use Rattle.results.specs.declared.Refusal.TheVariants.{Trailing}
+use Rattle.results.specs.declared.Refusal.TheVariants.{Trailing, NamesLost}
 use Rattle.stored.specs.Bytes.{Name, unread, name, Names, nameless, names, named, Scan, refused, taken, scan, sections, Reading, refused_for, holds}
 
 -- ---- names: whether one is not empty, and the next place
@@ -22,6 +23,10 @@ name_told (name x j bs) = Ok (ltb 0 (length x), j)
 abbrev pub names_told : Names → Named
 names_told (nameless f) = Err f
 names_told (names xs j bs) = Ok (named xs, j)
+
+abbrev pub names_fault : Bool → Option Refusal
+names_fault true = Some NamesLost
+names_fault false = None
 
 -- ---- words, as far as there is room: how many, and whether some name is not empty
 

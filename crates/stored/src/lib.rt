@@ -8,6 +8,7 @@ ghost use Rattle.std.specs.Prelude.{◌≡◌, length};
 ghost use Rattle.stored.specs.Machine.{Held, Storing};
 ghost use Rattle.stored.specs.Promises.{Stores};
 ghost use Rattle.stored.specs.Restoring.{Restores};
+ghost use Rattle.stored.specs.Taking.{names_fault};
 
 use crate::reading::take_table;
 use crate::writing::put_table;
@@ -54,6 +55,18 @@ pub fn store(words: &[i32], bytes: &mut [u8]) -> Result<usize, Refusal>
     store_with(words, bytes, &mut lists)
 }
 
+// "24 going back while some name isn't empty".
+fn names_fault(filled: bool) -> Option<Refusal>
+    ensures { result ≡ names_fault filled }
+{
+    if filled {
+        Some(Refusal::NamesLost)
+    } else {
+        None
+    }
+}
+
+// Refusals in the order of `RestoreRefused`: of the judge's and the names' the first is given.
 fn restore_in(
     bytes: &[u8],
     words: &mut [i32],
@@ -70,9 +83,10 @@ fn restore_in(
     if Table::WORDS < n {
         return Err(Refusal::TooManyWords);
     }
-    judging::judge_by(&memory[..n], Buffer::Nothing, lists)?;
-    if filled {
-        return Err(Refusal::NamesLost);
+    let judged = judging::judge_by(&memory[..n], Buffer::Nothing, lists).err();
+    let named = names_fault(filled);
+    if let Some(fault) = judged.or(named) {
+        return Err(fault);
     }
     take_table(bytes, words)?;
     Ok(n)

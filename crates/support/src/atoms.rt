@@ -21,12 +21,13 @@ pub fn first_with(l: &[i32], v: Value, values: &[u8; 256]) -> Option<usize>
 }
 
 // The first true atom of a list other than p.
+// Stays: an index, so that an edit can begin at the second atom (must-fail/later_witness).
 pub fn other_true(l: &[i32], p: usize, values: &[u8; 256]) -> Option<usize>
     requires { Members 256 l.now × Plain l.now }
     ensures { result ≡ other_true (values_of (valued values.now)) p (atoms l.now) }
 {
-    for head in l {
-        let q = words::plain(*head);
+    for k in 0..l.len() {
+        let q = words::plain(l[k]);
         let holds = interpretation::value_of(values, q) == Value::True;
         if (q != p) & holds {
             return Some(q);

@@ -202,6 +202,7 @@ pub fn blamed(
 }
 
 // "the union of the witnesses' reasons over all rules with p in the head"
+// Stays: an index, so that an edit can begin at the second rule (must-fail/first_rule_left_out).
 pub fn blame(
     t: &Accepted,
     lists: &Lists,
@@ -215,8 +216,9 @@ pub fn blame(
     let all = &lists[..];
     let l = heads::list(all, p);
     let mut acc = levels::empty();
-    for at in l {
-        let more = blamed(t, usize::from(*at), p, values, reasons, acc);
+    for k in 0..l.len() {
+        let at = usize::from(l[k]);
+        let more = blamed(t, at, p, values, reasons, acc);
         acc = more;
     }
     acc

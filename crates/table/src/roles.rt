@@ -25,7 +25,8 @@ pub fn count_at(t: &[i32], i: Cursor, most: usize) -> Result<(usize, Cursor), Re
     let Ok((w, next)) = word_at(t, i) else {
         return Err(Refusal::Absent(i));
     };
-    if w < 0 {
+    let below = w < 0;
+    if below {
         return Err(Refusal::Count(i));
     }
     let n = words::size(w);

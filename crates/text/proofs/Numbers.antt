@@ -15,7 +15,7 @@ use lib.Seq.{drop-cons}
 use mir.Syntax.{w32, w64}
 use mir.Val.{SFits, to_z, of_z}
 use mir.ValLaws.{to_z-of_z}
-use Rattle.std.specs.Prelude.{Some, None, Result, Ok, Err, OkIff}
+use Rattle.std.specs.Prelude.{⊤, Some, None, Result, Ok, Err, OkIff}
 use Rattle.std.specs.Prelude as Prelude
 use Rattle.std.specs.Bool.{then_some}
 use Rattle.std.specs.Char.{is_ascii_digit}
@@ -304,3 +304,9 @@ module _ (run : List ℕ) (m : pointwise eqb (take 1 run) (45 ∷ []) ≡ false)
 
   pub word_is_plain : {E : Type 0} (n : ℕ) → o ≡ Some n → (r : Result ℤ E) → OkIff r (SFits w32 (pos n)) (pos n) → result_ok r ≡ word_in (word run)
   word_is_plain n e r f = rw (word_plain run (starts_minus run false m)) (word_positive (digits run) n (sym g ∙ e) r f)
+
+  pub word_past_plain : (n : ℕ) → o ≡ Some n → 2147483647 < n → None ≡ word_in (word run)
+  word_past_plain n e h = word_is_plain {E = ⊤} n e (Err tt) (λ s. let k = pos_small n s in omega (arith, h, k))
+
+  pub word_low_plain : (n : ℕ) → o ≡ Some n → n ≤ 2147483647 → Some (pos n) ≡ word_in (word run)
+  word_low_plain n e h = word_is_plain {E = ⊤} n e (Ok (pos n)) (pos_fits32 n h, refl)

@@ -33,6 +33,7 @@ pub fn limit_of(run: &[u8]) -> Option<u32>
 }
 
 // A word: a number of signed 32 bits.
+// Stays: a test, so that an edit can turn what it lets through (must-fail/word_wrapped).
 pub fn word_of(run: &[u8]) -> Option<i32>
     ensures { result ≡ word_in (T.word run.now) }
 {
@@ -40,5 +41,9 @@ pub fn word_of(run: &[u8]) -> Option<i32>
         let size = i64::try_from(digits_of(digits)?).ok()?;
         return i32::try_from(-size).ok();
     }
-    i32::try_from(digits_of(run)?).ok()
+    let value = digits_of(run)?;
+    if 2147483647 < value {
+        return None;
+    }
+    Some(value as i32)
 }

@@ -11,12 +11,13 @@ use Rattle.interpretation.specs.View.{valued}
 use Rattle.layout.specs.Layout.{program_of}
 use Rattle.rounds.specs.Rounds.{whys_in}
 use Rattle.rounds.specs.Marks.{marks_after}
+use Rattle.rounds.proofs.Records.{recorded_none}
 use Rattle.explaining.specs.Walk.{walk_codes, FitCodes}
 use Rattle.explaining.proofs.Walks.{codes_fit, rounds_on, quiet_ends, after_none}
 use Rattle.explaining.proofs.mark.Goals as goal
 
 pub loop-k-init : goal.loop-k-init
-loop-k-init c = c.nothing-marks.ensures.each ∙ sym (after_none _ _)
+loop-k-init c = recorded_none.each ∙ sym (after_none _ _)
 
 pub walk-requires : goal.walk-requires
 walk-requires c =

@@ -26,7 +26,7 @@ returns-then-model c =
     let P = program_of a.t.now.words.now a.t.now.places in
     let plan = c.values_of-values.ensures.says in
     let b = c.in_default.ensures in
-    ap Ok (c.passes.ensures ∙ ap (passes_by a.cycles P a.t.now.places.atoms) plan) ∙ passed _ _ _ (cc) (ap (model P) (sym plan) ∙ sym c.is_model-model.ensures ∙ c.if-model.true)
+    ap Ok (c.passes-approved.ensures ∙ ap (passes_by a.cycles P a.t.now.places.atoms) plan) ∙ passed _ _ _ (cc) (ap (model P) (sym plan) ∙ sym c.is_model-model.ensures ∙ c.if-model.true)
 
 pub returns-else-model : goal.returns-else-model
 returns-else-model c =

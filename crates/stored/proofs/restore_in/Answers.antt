@@ -1,9 +1,12 @@
 -- `stored::restore_in` meets its contract: the words are taken into the memory, judged there, and taken again where nothing is at fault. Assumes nothing.
-use mathlib.Core.Path.{refl, sym, ◌∙◌, subst}
+use mathlib.Core.Path.{◌≡◌, refl, sym, ap, ap₂, ◌∙◌, subst}
 use mathlib.Core.List.{List}
 use native.Mathlib.Omega.{arith}
 use lib.IntN.{ℤ}
 use Rattle.std.specs.Prelude.{Err}
+use Rattle.std.specs.Option.{option_or}
+use Rattle.std.specs.Result.{result_err}
+use Rattle.stored.specs.Taking.{names_fault}
 use Rattle.std.proofs.lemmas.Result.{err_from_is_err_and}
 use Rattle.results.specs.declared.Refusal.TheVariants.{ShortWords}
 use Rattle.judging.specs.declared.Buffer.TheVariants.{Nothing}
@@ -11,7 +14,7 @@ use Rattle.judging.specs.Judging.{Judged}
 use Rattle.stored.specs.Bytes.{Bytes}
 use Rattle.stored.specs.Restoring.{room, bytes}
 use Rattle.stored.proofs.Exact.{bytes_of, refused≢holds}
-use Rattle.stored.proofs.Restored.{restores_refused, Took, took_words, took_refused, took_front, restores_many, restores_judged, restores_named, restores_good}
+use Rattle.stored.proofs.Restored.{restores_refused, Took, took_words, took_refused, took_front, restores_many, restores_faulty, restores_whole_table}
 use Rattle.stored.proofs.restore_in.Goals as goal
 
 pub returns-then-words-lt-WORDS : goal.returns-then-words-lt-WORDS
@@ -38,8 +41,8 @@ returns-then-n-gt-WORDS c =
     let all-bytes : Bytes c.args.bytes.now = bytes_of c.args.bytes.now (λ i. omega (arith, c.type_inv.bytes i)) in
     restores_many a.bytes.now c.in_ok-n.n c.in_ok-n.filled a.memory.now c.take_table.new.words took a.words.now all-bytes c.if-words-lt-WORDS.false c.if-n-gt-WORDS.true
 
-pub returns-in_err-judge_by : goal.returns-in_err-judge_by
-returns-in_err-judge_by c =
+pub returns-in-Some : goal.returns-in-Some
+returns-in-Some c =
     let a = c.args in
     let took : Took a.bytes.now c.in_ok-n.n c.in_ok-n.filled a.memory.now c.take_table.new.words =
     took_words a.bytes.now a.memory.now c.take_table.new.words c.in_ok-n.n c.in_ok-n.filled c.take_table.result c.take_table.ensures c.in_ok-n.was in
@@ -49,22 +52,8 @@ returns-in_err-judge_by c =
     subst (λ (l : List ℤ). Judged l Nothing c.judge_by.result)
     (took_front a.bytes.now c.in_ok-n.n c.in_ok-n.filled a.memory.now c.take_table.new.words took (omega (arith, p, c.if-n-gt-WORDS.false)))
     c.judge_by.ensures.0 in
-    let p = err_from_is_err_and c.from_residual-in_err-judge_by.result c.from_residual-in_err-judge_by.ensures.1 in
-    rw (p.1, p.2)
-    (restores_judged a.bytes.now c.in_ok-n.n c.in_ok-n.filled a.memory.now c.take_table.new.words took a.words.now all-bytes c.if-words-lt-WORDS.false c.judge_by.result judges c.in_err-judge_by.field-0.0 c.in_err-judge_by.was)
-
-pub returns-then-filled : goal.returns-then-filled
-returns-then-filled c =
-    let a = c.args in
-    let took : Took a.bytes.now c.in_ok-n.n c.in_ok-n.filled a.memory.now c.take_table.new.words =
-    took_words a.bytes.now a.memory.now c.take_table.new.words c.in_ok-n.n c.in_ok-n.filled c.take_table.result c.take_table.ensures c.in_ok-n.was in
-    let all-bytes : Bytes c.args.bytes.now = bytes_of c.args.bytes.now (λ i. omega (arith, c.type_inv.bytes i)) in
-    let judges : Judged took.ws Nothing c.judge_by.result =
-    let p = c.requires in
-    subst (λ (l : List ℤ). Judged l Nothing c.judge_by.result)
-    (took_front a.bytes.now c.in_ok-n.n c.in_ok-n.filled a.memory.now c.take_table.new.words took (omega (arith, p, c.if-n-gt-WORDS.false)))
-    c.judge_by.ensures.0 in
-    restores_named a.bytes.now c.in_ok-n.n c.in_ok-n.filled a.memory.now c.take_table.new.words took a.words.now all-bytes c.if-words-lt-WORDS.false c.judge_by.result judges _ c.in_ok-judge_by.was c.if-filled.true
+    let first : c.or.result ≡ option_or (result_err c.judge_by.result) (names_fault c.in_ok-n.filled) = c.or.ensures ∙ ap₂ option_or c.err-judged.ensures.value c.names_fault-named.ensures in
+    restores_faulty a.bytes.now c.in_ok-n.n c.in_ok-n.filled a.memory.now c.take_table.new.words took a.words.now all-bytes c.if-words-lt-WORDS.false c.judge_by.result judges c.in-Some.fault (sym first ∙ c.in-Some.is)
 
 pub returns-in_err-take_table : goal.returns-in_err-take_table
 returns-in_err-take_table c =
@@ -84,5 +73,6 @@ returns c =
     subst (λ (l : List ℤ). Judged l Nothing c.judge_by.result)
     (took_front a.bytes.now c.in_ok-n.n c.in_ok-n.filled a.memory.now c.take_table.new.words took (omega (arith, p, c.if-n-gt-WORDS.false)))
     c.judge_by.ensures.0 in
-    restores_good a.bytes.now c.in_ok-n.n c.in_ok-n.filled a.memory.now c.take_table.new.words took a.words.now all-bytes c.if-words-lt-WORDS.false c.judge_by.result judges _ c.in_ok-judge_by.was c.if-filled.false
+    let first : c.or.result ≡ option_or (result_err c.judge_by.result) (names_fault c.in_ok-n.filled) = c.or.ensures ∙ ap₂ option_or c.err-judged.ensures.value c.names_fault-named.ensures in
+    restores_whole_table a.bytes.now c.in_ok-n.n c.in_ok-n.filled a.memory.now c.take_table.new.words took a.words.now all-bytes c.if-words-lt-WORDS.false c.judge_by.result judges (sym first ∙ c.in_default.is)
     c.take_table-2.new.words c.take_table-2.result c.take_table-2.ensures

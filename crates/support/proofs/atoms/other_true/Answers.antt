@@ -18,7 +18,7 @@ use Rattle.support.proofs.atoms.other_true.Goals as goal
 pub returns-then-q-p : goal.returns-then-q-p
 returns-then-q-p c =
     let a = c.args in
-    let w = nat_abs (get_or a.l.now c.loop-head.head-index (pos 0)) in
+    let w = nat_abs (get_or a.l.now c.loop-k.k (pos 0)) in
     let q : c.plain-q.result ≡ w = search rules in
     let holds : c.eq-holds.result ≡ says_true (cell_value (valued a.values.now w)) =
     same_by c.eq-holds.result True c.value_of.result (λ e. search rules) (λ e f. search rules)
@@ -26,23 +26,23 @@ returns-then-q-p c =
     let asked : not (eqb c.plain-q.result a.p) && c.eq-holds.result ≡ not (eqb w a.p) && says_true (cell_value (valued a.values.now w)) =
     ap (λ (o : ℕ). not (eqb o a.p) && c.eq-holds.result) q ∙ ap (λ (x : Bool). not (eqb w a.p) && x) holds in
     ap Some q
-    ∙ sym (other_here a.l.now c.loop-head.head-index (values_of (valued a.values.now)) a.p (omega arith) (sym asked ∙ c.if-q-p.true))
-    ∙ c.loop-head.invariant
+    ∙ sym (other_here a.l.now c.loop-k.k (values_of (valued a.values.now)) a.p (omega arith) (sym asked ∙ c.if-q-p.true))
+    ∙ c.loop-k.invariant
 
-pub loop-head-preserved : goal.loop-head-preserved
-loop-head-preserved c =
+pub loop-k-preserved : goal.loop-k-preserved
+loop-k-preserved c =
     let a = c.args in
-    let w = nat_abs (get_or a.l.now c.loop-head.head-index (pos 0)) in
+    let w = nat_abs (get_or a.l.now c.loop-k.k (pos 0)) in
     let q : c.plain-q.result ≡ w = search rules in
     let holds : c.eq-holds.result ≡ says_true (cell_value (valued a.values.now w)) =
     same_by c.eq-holds.result True c.value_of.result (λ e. search rules) (λ e f. search rules)
     ∙ ap says_true (c.value_of.ensures ∙ ap (λ (p : ℕ). cell_value (valued a.values.now p)) q) in
     let asked : not (eqb c.plain-q.result a.p) && c.eq-holds.result ≡ not (eqb w a.p) && says_true (cell_value (valued a.values.now w)) =
     ap (λ (o : ℕ). not (eqb o a.p) && c.eq-holds.result) q ∙ ap (λ (x : Bool). not (eqb w a.p) && x) holds in
-    sym (other_on a.l.now c.loop-head.head-index (values_of (valued a.values.now)) a.p (omega arith) (sym asked ∙ c.if-q-p.false))
-    ∙ c.loop-head.invariant
+    sym (other_on a.l.now c.loop-k.k (values_of (valued a.values.now)) a.p (omega arith) (sym asked ∙ c.if-q-p.false))
+    ∙ c.loop-k.invariant
 
 pub returns : goal.returns
 returns c =
     let a = c.args in
-    sym (other_end a.l.now c.loop-head.head-index (values_of (valued a.values.now)) a.p (omega arith)) ∙ c.loop-head.invariant
+    sym (other_end a.l.now c.loop-k.k (values_of (valued a.values.now)) a.p (omega arith)) ∙ c.loop-k.invariant

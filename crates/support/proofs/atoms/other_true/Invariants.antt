@@ -7,5 +7,5 @@ use Rattle.layout.specs.Layout.{atoms}
 use Rattle.support.specs.Asking.{values_of, other_true}
 use Rattle.support.proofs.atoms.other_true.Given as goal
 
-abbrev pub invariant-loop-head : goal.invariant-loop-head
-invariant-loop-head l = other_true (values_of (valued l.values)) l.p (atoms (drop l.head-index l.l)) ≡ other_true (values_of (valued l.values)) l.p (atoms l.l)
+abbrev pub invariant-loop-k : goal.invariant-loop-k
+invariant-loop-k l = other_true (values_of (valued l.values)) l.p (atoms (drop l.k l.l)) ≡ other_true (values_of (valued l.values)) l.p (atoms l.l)
