@@ -13,9 +13,13 @@ use Rattle.aspif.specs.Statements.{Signed, Body, normal}
 use Rattle.aspif.specs.Writing.{with, barred, stating}
 use Rattle.bytes_out.specs.Putting.{field_text, signed_text}
 use Rattle.aspif_parts.specs.declared.Test.{Test}
-use Rattle.aspif_parts.specs.Parts.{line_text, lines_text, head_text, literals_text, pairs_text, passes_by, pass_of, weight_by, weighed, weights_by, reached_body, barred_by, element_body, element_bodies, stating_all, element_of, weight_text, barred_text, good_text}
+use Rattle.aspif_parts.specs.Parts.{line_text, lines_text, head_text, literals_text, pairs_text, passes_by, pass_of, bit_of, weight_by, weighed, weights_by, reached_body, barred_by, element_body, element_bodies, stating_all, element_of, weight_text, barred_text, good_text}
 use Rattle.aspif_parts.proofs.Texts.{signed_field, literals_nil, literals_one, literals_cons, literals_on, pairs_nil, pairs_one, pairs_on, lines_nil, lines_one, lines_on, line_parts, normal_parts, weight_parts, fact_parts}
 use Rattle.aspif_parts.proofs.Elements.{text_on, text_off}
+
+pub bit_most : (b : Bool) → bit_of b ≤ 1
+bit_most true = omega arith
+bit_most false = omega arith
 
 -- ---- an element of a weight body
 

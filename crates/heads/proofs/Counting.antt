@@ -67,7 +67,7 @@ module _ (a : List ℕ) (s : ℕ) where
   unfolding end_of
   end_suc p = refl
 
-  end_on : (p : ℕ) → end_of a s (p + 1) ≡ end_of a s p + get_or a (2 * (p + 1) + 1) 0
+  pub end_on : (p : ℕ) → end_of a s (p + 1) ≡ end_of a s p + get_or a (2 * (p + 1) + 1) 0
   end_on p =
       let e : suc p ≡ p + 1 = omega arith in
       ap (end_of a s) (sym e) ∙ end_suc p ∙ ap (λ (q : ℕ). end_of a s p + get_or a (2 * q + 1) 0) e

@@ -64,13 +64,13 @@ truth_byte (suc zero) h = absurd (h refl)
 truth_byte (suc (suc v)) h = refl
 
 module _ (n : ℕ) (vs : List ℕ) (i : ℕ) where
-  truth_one : i < n → get_or vs i 0 ≡ 1 → true_atoms n (valued vs) (suc i) ≡ true
+  pub truth_one : i < n → get_or vs i 0 ≡ 1 → true_atoms n (valued vs) (suc i) ≡ true
   truth_one h e = if_lt_yes i n (truth_of (valued vs (suc i))) false h ∙ ap truth_of (cells_suc vs [] i ∙ ap (λ (v : ℕ). cell_by v 0) e)
 
-  truth_other : i < n → get_or vs i 0 ≢ 1 → true_atoms n (valued vs) (suc i) ≡ false
+  pub truth_other : i < n → get_or vs i 0 ≢ 1 → true_atoms n (valued vs) (suc i) ≡ false
   truth_other h e = if_lt_yes i n (truth_of (valued vs (suc i))) false h ∙ ap truth_of (cells_suc vs [] i) ∙ truth_byte (get_or vs i 0) e
 
-  truth_past : n ≤ i → true_atoms n (valued vs) (suc i) ≡ false
+  pub truth_past : n ≤ i → true_atoms n (valued vs) (suc i) ≡ false
   truth_past h = if_lt_no i n (truth_of (valued vs (suc i))) false h
 
   truth_by_value : (b : Bool) → eqb (get_or vs i 0) 1 ≡ b → i < n → true_atoms n (valued vs) (suc i) ≡ b

@@ -30,7 +30,7 @@ row_off ws l h e =
 
 -- ---- no bit in common
 
-rows_apart : (a b : List ℕ) → ((k : ℕ) → k < 4 → bit_and (get_or a k 0) (get_or b k 0) ≡ 0) → Apart (row a) (row b)
+pub rows_apart : (a b : List ℕ) → ((k : ℕ) → k < 4 → bit_and (get_or a k 0) (get_or b k 0) ≡ 0) → Apart (row a) (row b)
 rows_apart a b f l i x y =
     let k = (l - 1) / 64 in
     let m = (l - 1) % 64 in

@@ -25,7 +25,7 @@ module _ (X Y : Atoms) where
   lacks_none zero h = refl
   lacks_none (suc p) h = absurd (omega arith)
 
-  lacks_here : (p : ℕ) → 0 < p → X p ≡ true → Y p ≡ false → lacks_to X Y p ≡ true
+  pub lacks_here : (p : ℕ) → 0 < p → X p ≡ true → Y p ≡ false → lacks_to X Y p ≡ true
   lacks_here zero h x y = absurd (omega arith)
   lacks_here (suc p) h x y = ap (λ (b : Bool). b || lacks_to X Y p) (ap₂ (λ (a b : Bool). a && not b) x y)
 
