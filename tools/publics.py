@@ -64,6 +64,8 @@ def functions(path):
 def said(fact, thing):
     """What a contract says of a thing: `result`, or `b.new` for the later content of a buffer b."""
     name = re.escape(thing)
+    if re.search(rf"{name} ≡ (true|false) →", fact):
+        return "in part"
     if re.search(rf"(^|[(×] ?){name}(\.now)? ≡", fact):
         return "="
     view = re.search(rf"(^|[(×] ?)(\w+) \(?{name}(\.\w+)?\)?( 0)? ≡", fact)
