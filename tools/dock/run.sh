@@ -18,7 +18,8 @@ else
     echo "dock: not looked for probe loops, since there is no objdump or no python3"
 fi
 if command -v nm >/dev/null; then
-    for name in $(nm -u "$dock" "$desk" | awk '$1 == "U" { print $2 }' | sort -u); do
+    needed=$(nm -u "$dock" "$desk")
+    for name in $(echo "$needed" | awk '$1 == "U" { print $2 }' | sort -u); do
         case $name in
             memcpy | memset) ;;
             *) echo "dock: the libraries need $name from outside" && exit 1 ;;
